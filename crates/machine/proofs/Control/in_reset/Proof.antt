@@ -1,0 +1,11 @@
+use borrow.Author.Needs.{needs}
+use Rattle.machine.specs.Records.{resetRecord}
+use Rattle.machine.proofs.Control.in_reset.Statement.{statement}
+use Rattle.machine.proofs.Control.in_reset.Tie as tie
+
+returns : tie.Need-returns
+unfolding resetRecord
+returns c = search needs
+
+pub in-reset-spec : {M : Type 1} → statement M
+in-reset-spec = tie.close (tie.spec returns)

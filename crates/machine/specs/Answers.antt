@@ -1,0 +1,39 @@
+-- The paper's number of each refusal, and the number that an entry stores.
+-- Assumes nothing.
+use Prim.Native.Nat.{ℕ}
+use Rattle.machine.specs.declared.Kind.{Kind}
+use Rattle.machine.specs.declared.Kind.the-variants.{Exception, Line}
+use Rattle.machine.specs.declared.Refusal.{Refusal}
+use Rattle.machine.specs.declared.Refusal.the-variants.{StoreSize, CellValue, ControlField, Lines, Budget, TapeEnds, RecordKind, RecordLength, BlockPlace, BlockCell, RecordOrder, TapeLength}
+
+-- document 01, "Who can be refused, for what"
+abbrev pub refusalNumber : Refusal → ℕ
+-- fewer than 8 or more than 8,388,608 cells
+refusalNumber StoreSize = 1
+-- a cell of 134,217,728 or more
+refusalNumber CellValue = 2
+-- a control field outside its widths and rules
+refusalNumber ControlField = 3
+-- lines with bit 0, 1 or 2 set, or over 24 bits
+refusalNumber Lines = 4
+-- budget over 65,535
+refusalNumber Budget = 5
+-- the tape stops inside a header or payload, or before an end record
+refusalNumber TapeEnds = 6
+-- kind not 1 to 4
+refusalNumber RecordKind = 7
+-- length wrong for the kind
+refusalNumber RecordLength = 8
+-- block beyond the store
+refusalNumber BlockPlace = 9
+-- a cell of a block as in 2
+refusalNumber BlockCell = 10
+-- not the end after the control record, an end with no control record, bytes after the end
+refusalNumber RecordOrder = 11
+-- over 65,536 bytes
+refusalNumber TapeLength = 12
+
+-- an exception has the number 0, a line twice its position
+abbrev pub kindNumber : Kind → ℕ
+kindNumber Exception = 0
+kindNumber (Line n) = n

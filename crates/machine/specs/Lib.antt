@@ -1,0 +1,4 @@
+pub mod Store
+pub mod Fields
+pub mod Records
+pub mod Answers

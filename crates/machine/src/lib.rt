@@ -1,0 +1,495 @@
+// The machine's values, and one total function for each primitive on cells and control record: a cell that is not there reads as 0, and a write
+// to it does nothing; a value is reduced to the width of what it goes into. So no function asks anything of its caller.
+ghost use mathlib.Core.Path.{_≡_};
+ghost use Prim.Native.Nat.{ℕ, _+_, _*_, _/_, _%_, _<_};
+ghost use lib.ListN.{getD, set};
+ghost use Rattle.machine.specs.Store.{word, key, putWord, putKey, byte, withByte, putByte, putLink, absent, forbids, forbidden, violation, firstWord, previous};
+ghost use Rattle.machine.specs.Fields.{inTask, withIC, withIR, withIM, withPending, withPR, withEX, withEnabled, raised, flagsCleared, overflowed, carrySet};
+ghost use Rattle.machine.specs.Records.{freshRecord, resetRecord};
+ghost use Rattle.machine.specs.Answers.{refusalNumber, kindNumber};
+
+// The control record (document 01, "The machine").
+#[repr(C)]
+pub struct Control {
+    pub ic: u32,
+    pub ir: u32,
+    pub im: u32,
+    pub pending: u32,
+    pub pr: u32,
+    pub ex: u32,
+    pub monitor: bool,
+    pub enabled: bool,
+    pub reset: bool,
+}
+
+impl Control {
+    pub const INTERRUPT_NUMBER: u32 = 8;
+
+    pub const RETURN_ADDRESS: u32 = 10;
+
+    pub const INTERRUPTION_PROGRAM: u32 = 12;
+
+    pub const START_ADDRESS: u32 = 14;
+
+    // The record after power on (14.4): everything zero but bit 0 of PR, in the reset state.
+    pub fn fresh() -> Control
+        ensures { λ r. ⌜ r ≡ freshRecord ⌝ }
+    {
+        Control {
+            ic: 0,
+            ir: 0,
+            im: 0,
+            pending: 0,
+            pr: 128,
+            ex: 0,
+            monitor: true,
+            enabled: false,
+            reset: true,
+        }
+    }
+
+    // The record in the reset state: nothing pending, monitor mode, interrupts disabled.
+    pub fn in_reset(self) -> Control
+        ensures { λ r. ⌜ r ≡ resetRecord self ⌝ }
+    {
+        Control {
+            ic: self.ic,
+            ir: self.ir,
+            im: self.im,
+            pending: 0,
+            pr: self.pr,
+            ex: self.ex,
+            monitor: true,
+            enabled: false,
+            reset: true,
+        }
+    }
+}
+
+// Why an instruction exception was met, with the address whose test failed.
+pub enum Fault {
+    Unassigned,
+    Absent(u32),
+    Privileged,
+    Store(u32),
+    Jump(u32),
+}
+
+// What an interruption was; a line carries the number stored.
+pub enum Kind {
+    Exception,
+    Line(u32),
+}
+
+impl Kind {
+    // The number that the entry stores in word 8.
+    pub fn number(self) -> u32
+        ensures { λ r. ⌜ r ≡ kindNumber self ⌝ }
+    {
+        match self {
+            Kind::Exception => 0,
+            Kind::Line(n) => n,
+        }
+    }
+}
+
+// How a run ended.
+pub enum Outcome {
+    Reset,
+    Interrupted(Kind),
+    Spent,
+}
+
+// The numbered refusals 1 to 12 (document 01, "Who can be refused, for what"), in the order of their numbers.
+pub enum Refusal {
+    StoreSize,
+    CellValue,
+    ControlField,
+    Lines,
+    Budget,
+    TapeEnds,
+    RecordKind,
+    RecordLength,
+    BlockPlace,
+    BlockCell,
+    RecordOrder,
+    TapeLength,
+}
+
+impl Refusal {
+    pub fn number(self) -> u32
+        ensures { λ r. ⌜ r ≡ refusalNumber self ⌝ }
+    {
+        match self {
+            Refusal::StoreSize => 1,
+            Refusal::CellValue => 2,
+            Refusal::ControlField => 3,
+            Refusal::Lines => 4,
+            Refusal::Budget => 5,
+            Refusal::TapeEnds => 6,
+            Refusal::RecordKind => 7,
+            Refusal::RecordLength => 8,
+            Refusal::BlockPlace => 9,
+            Refusal::BlockCell => 10,
+            Refusal::RecordOrder => 11,
+            Refusal::TapeLength => 12,
+        }
+    }
+}
+
+// What the tests of a call came to.
+pub enum Verdict {
+    Accepted,
+    Rejected(Refusal),
+}
+
+// What a run answers.
+pub enum Answer {
+    Refused(Refusal),
+    Ended(Outcome),
+}
+
+// What a run hands back.
+pub struct Run {
+    pub control: Control,
+    pub answer: Answer,
+    pub executed: u32,
+    pub entries: u32,
+}
+
+// What a panel key and the loader hand back.
+pub struct State {
+    pub control: Control,
+    pub verdict: Verdict,
+}
+
+// How an instruction ended; the record stands beside it, so that it stays in registers.
+pub enum Completion {
+    Done,
+    Faulted(Fault),
+}
+
+pub struct Performed {
+    pub control: Control,
+    pub completion: Completion,
+}
+
+// How a cycle ended.
+pub enum CycleEnd {
+    Executed,
+    Entered(Kind),
+}
+
+pub struct Cycled {
+    pub control: Control,
+    pub end: CycleEnd,
+}
+
+pub fn cell_at(s: &[u32], i: u32) -> u32
+    ensures { λ r. ⌜ r ≡ getD (now (s .entry)) i 0 ⌝ }
+{
+    let j = i as usize;
+    if j < s.len() { s[j] } else { 0 }
+}
+
+pub fn put_cell(s: &mut [u32], i: u32, v: u32)
+    ensures { λ _. ⌜ now (s .exit) ≡ set (now (s .entry)) i v ⌝ }
+{
+    let j = i as usize;
+    if j < s.len() {
+        s[j] = v;
+    }
+}
+
+pub fn word_at(s: &[u32], i: u32) -> u32
+    ensures value { λ r. ⌜ r ≡ word (now (s .entry)) i ⌝ }
+    ensures bound { λ r. ⌜ r < 16777216 ⌝ }
+{
+    cell_at(s, i) % 16777216
+}
+
+pub fn key_at(s: &[u32], i: u32) -> u32
+    ensures { λ r. ⌜ r ≡ key (now (s .entry)) i ⌝ }
+{
+    cell_at(s, i) / 16777216 % 8
+}
+
+fn with_word(x: u32, v: u32) -> u32
+    ensures { λ r. ⌜ r ≡ x / 16777216 * 16777216 + v % 16777216 ⌝ }
+{
+    x / 16777216 * 16777216 + v % 16777216
+}
+
+fn with_key(x: u32, k: u32) -> u32
+    ensures { λ r. ⌜ r ≡ k % 8 * 16777216 + x % 16777216 ⌝ }
+{
+    k % 8 * 16777216 + x % 16777216
+}
+
+pub fn put_word(s: &mut [u32], i: u32, v: u32)
+    ensures { λ _. ⌜ now (s .exit) ≡ putWord (now (s .entry)) i v ⌝ }
+{
+    let x = cell_at(s, i);
+    let y = with_word(x, v);
+    put_cell(s, i, y);
+}
+
+fn with_long(x: u32, v: u64) -> u32
+    ensures { λ r. ⌜ r ≡ x / 16777216 * 16777216 + v % 16777216 ⌝ }
+{
+    x / 16777216 * 16777216 + (v % 16777216) as u32
+}
+
+// The last 24 bits of a double-length register go in.
+pub fn put_long(s: &mut [u32], i: u32, v: u64)
+    ensures { λ _. ⌜ now (s .exit) ≡ putWord (now (s .entry)) i v ⌝ }
+{
+    let x = cell_at(s, i);
+    let y = with_long(x, v);
+    put_cell(s, i, y);
+}
+
+pub fn put_key(s: &mut [u32], i: u32, k: u32)
+    ensures { λ _. ⌜ now (s .exit) ≡ putKey (now (s .entry)) i k ⌝ }
+{
+    let x = cell_at(s, i);
+    let y = with_key(x, k);
+    put_cell(s, i, y);
+}
+
+pub fn byte_at(s: &[u32], a: u32) -> u32
+    ensures value { λ r. ⌜ r ≡ byte (now (s .entry)) a ⌝ }
+    ensures bound { λ r. ⌜ r < 4096 ⌝ }
+{
+    let x = word_at(s, a / 2);
+    if a % 2 == 0 { x / 4096 } else { x % 4096 }
+}
+
+pub fn with_byte(x: u32, a: u32, v: u32) -> u32
+    ensures { λ r. ⌜ r ≡ withByte x a v ⌝ }
+{
+    if a % 2 == 0 {
+        v % 4096 * 4096 + x % 4096
+    } else {
+        x / 4096 * 4096 + v % 4096
+    }
+}
+
+pub fn put_byte(s: &mut [u32], a: u32, v: u32)
+    ensures { λ _. ⌜ now (s .exit) ≡ putByte (now (s .entry)) a v ⌝ }
+{
+    let x = word_at(s, a / 2);
+    let y = with_byte(x, a, v);
+    put_word(s, a / 2, y);
+}
+
+// if FR(6:7) <> 0 then W := v.
+pub fn put_link(s: &mut [u32], w: u32, v: u32)
+    ensures { λ _. ⌜ now (s .exit) ≡ putLink (now (s .entry)) w v ⌝ }
+{
+    if w == 0 {
+        return;
+    }
+    put_word(s, w, v);
+}
+
+// Test Address: no cell has the address.
+pub fn is_absent(s: &[u32], a: u32) -> bool
+    ensures { λ r. ⌜ r ≡ absent (now (s .entry)) a ⌝ }
+{
+    ((a / 2) as usize) >= s.len()
+}
+
+// PR(PK) = 1.
+pub fn is_key_forbidden(pr: u32, k: u32) -> bool
+    ensures { λ r. ⌜ r ≡ forbids pr k ⌝ }
+{
+    (pr >> (7 - k % 8)) % 2 == 1
+}
+
+// The cell is forbidden, whatever the mode.
+pub fn is_forbidden(s: &[u32], c: Control, i: u32) -> bool
+    ensures { λ r. ⌜ r ≡ forbidden (now (s .entry)) c i ⌝ }
+{
+    let k = key_at(s, i);
+    is_key_forbidden(c.pr, k)
+}
+
+// Test Protection: task mode, and the cell is forbidden.
+pub fn is_violation(s: &[u32], c: Control, i: u32) -> bool
+    ensures { λ r. ⌜ r ≡ violation (now (s .entry)) c i ⌝ }
+{
+    if c.monitor {
+        false
+    } else {
+        let k = key_at(s, i);
+        is_key_forbidden(c.pr, k)
+    }
+}
+
+// The address of a double word's first word.
+pub fn first_word(a: u32) -> u32
+    ensures { λ r. ⌜ r ≡ firstWord a ⌝ }
+{
+    if a / 2 == 0 { 6 } else { a / 2 * 2 - 2 }
+}
+
+// The number of Wpre.
+pub fn previous_register(w: u32) -> u32
+    ensures { λ r. ⌜ r ≡ previous w ⌝ }
+{
+    (w % 4 + 3) % 4
+}
+
+// Test Mode.
+pub fn is_task(c: Control) -> bool
+    ensures { λ r. ⌜ r ≡ inTask c ⌝ }
+{
+    !c.monitor
+}
+
+// A changed record names every field: whole records move through memory otherwise.
+pub fn with_ic(c: Control, v: u32) -> Control
+    ensures { λ r. ⌜ r ≡ withIC c v ⌝ }
+{
+    Control {
+        ic: v % 16777216,
+        ir: c.ir,
+        im: c.im,
+        pending: c.pending,
+        pr: c.pr,
+        ex: c.ex,
+        monitor: c.monitor,
+        enabled: c.enabled,
+        reset: c.reset,
+    }
+}
+
+pub fn with_ir(c: Control, v: u32) -> Control
+    ensures { λ r. ⌜ r ≡ withIR c v ⌝ }
+{
+    Control {
+        ic: c.ic,
+        ir: v % 16777216,
+        im: c.im,
+        pending: c.pending,
+        pr: c.pr,
+        ex: c.ex,
+        monitor: c.monitor,
+        enabled: c.enabled,
+        reset: c.reset,
+    }
+}
+
+pub fn with_im(c: Control, v: u32) -> Control
+    ensures { λ r. ⌜ r ≡ withIM c v ⌝ }
+{
+    Control {
+        ic: c.ic,
+        ir: c.ir,
+        im: v % 16777216,
+        pending: c.pending,
+        pr: c.pr,
+        ex: c.ex,
+        monitor: c.monitor,
+        enabled: c.enabled,
+        reset: c.reset,
+    }
+}
+
+pub fn with_pending(c: Control, v: u32) -> Control
+    ensures { λ r. ⌜ r ≡ withPending c v ⌝ }
+{
+    Control {
+        ic: c.ic,
+        ir: c.ir,
+        im: c.im,
+        pending: v % 16777216,
+        pr: c.pr,
+        ex: c.ex,
+        monitor: c.monitor,
+        enabled: c.enabled,
+        reset: c.reset,
+    }
+}
+
+// PR(0) is always one.
+pub fn with_pr(c: Control, v: u32) -> Control
+    ensures { λ r. ⌜ r ≡ withPR c v ⌝ }
+{
+    Control {
+        ic: c.ic,
+        ir: c.ir,
+        im: c.im,
+        pending: c.pending,
+        pr: 128 + v % 128,
+        ex: c.ex,
+        monitor: c.monitor,
+        enabled: c.enabled,
+        reset: c.reset,
+    }
+}
+
+pub fn with_ex(c: Control, v: u32) -> Control
+    ensures { λ r. ⌜ r ≡ withEX c v ⌝ }
+{
+    Control {
+        ic: c.ic,
+        ir: c.ir,
+        im: c.im,
+        pending: c.pending,
+        pr: c.pr,
+        ex: v % 8,
+        monitor: c.monitor,
+        enabled: c.enabled,
+        reset: c.reset,
+    }
+}
+
+pub fn with_enabled(c: Control, e: bool) -> Control
+    ensures { λ r. ⌜ r ≡ withEnabled c e ⌝ }
+{
+    Control {
+        ic: c.ic,
+        ir: c.ir,
+        im: c.im,
+        pending: c.pending,
+        pr: c.pr,
+        ex: c.ex,
+        monitor: c.monitor,
+        enabled: e,
+        reset: c.reset,
+    }
+}
+
+// Bits join the interrupt register.
+pub fn raise(c: Control, bits: u32) -> Control
+    ensures { λ r. ⌜ r ≡ raised c bits ⌝ }
+{
+    with_ir(c, c.ir | bits)
+}
+
+// EX(22:23) := 0.
+pub fn clear_flags(c: Control) -> Control
+    ensures { λ r. ⌜ r ≡ flagsCleared c ⌝ }
+{
+    with_ex(c, c.ex / 4 * 4)
+}
+
+// On an overflow EX(22) := IR(bit) := 1.
+pub fn note_overflow(c: Control, over: u32, bit: u32) -> Control
+    ensures { λ r. ⌜ r ≡ overflowed c over bit ⌝ }
+{
+    if over == 0 {
+        return c;
+    }
+    let d = with_ex(c, c.ex / 4 * 4 + 2 + c.ex % 2);
+    raise(d, bit)
+}
+
+// EX(23) := carry.
+pub fn note_carry(c: Control, carry: u32) -> Control
+    ensures { λ r. ⌜ r ≡ carrySet c carry ⌝ }
+{
+    with_ex(c, c.ex / 2 * 2 + carry % 2)
+}
