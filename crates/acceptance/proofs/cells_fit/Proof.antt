@@ -1,0 +1,64 @@
+use Prim.Native.Nat.{ℕ, _+_, _-_, _≤_, _<_}
+use mathlib.Core.Path.{_≡_, refl}
+use mathlib.Core.Bool.{false, cond}
+use mathlib.Core.List.{List}
+use native.Mathlib.Numerals.{add-one}
+use lib.ListN.{length, getD, drop, drop-of-length-le}
+use lib.Seq.{drop-cons}
+use lib.Dec.{ltb}
+use borrow.Author.Needs.{needs}
+use borrow.Author.Tests.{lt-ltb, le-ltb}
+use Rattle.acceptance.specs.Accept.{cellsFit}
+use Rattle.acceptance.proofs.cells_fit.Statement.{statement}
+use Rattle.acceptance.proofs.cells_fit.Tie as tie
+
+step : (s : List ℕ) (i : ℕ) → i < length s
+    → cellsFit (drop i s) ≡ cond (ltb (getD s i 0) 134217728) (cellsFit (drop (i + 1) s)) false
+unfolding cellsFit
+step s i h = rw (add-one, drop-cons s i 0 h)
+
+abbrev Inv-loop : tie.InvT-loop
+Inv-loop s i₀ i = (i ≤ length s) × (cellsFit (drop i s) ≡ cellsFit s)
+
+abbrev μ-loop : tie.MeasureT-loop
+μ-loop s i₀ i = length s - i
+
+loop-holds : tie.Need-loop-holds Inv-loop μ-loop
+loop-holds c = (search needs, refl)
+
+mul-if1 : tie.Need-mul-if1 Inv-loop μ-loop
+mul-if1 c = search needs
+
+shared-slice-read-if1 : tie.Need-shared-slice-read-if1 Inv-loop μ-loop
+shared-slice-read-if1 c = search needs
+
+add-i : tie.Need-add-i Inv-loop μ-loop
+add-i c = search needs
+
+loop-less : tie.Need-loop-less Inv-loop μ-loop
+loop-less c = search needs
+
+loop-again : tie.Need-loop-again Inv-loop μ-loop
+loop-again c = (search needs, rw (← (c .before .before .before .loop .inv .1), step _ _ (c .before .before .loop-test .taken), lt-ltb _ _ (c .if1 .taken)))
+
+returns : tie.Need-returns Inv-loop μ-loop
+returns c = rw (← (c .before .before .before .loop .inv .1), step _ _ (c .before .before .loop-test .taken), le-ltb _ _ (c .if1 .left))
+
+returns-2 : tie.Need-returns-2 Inv-loop μ-loop
+unfolding cellsFit
+returns-2 c = rw (← (c .before .loop .inv .1), drop-of-length-le _ (c .loop-test .left))
+
+pub cells-fit-spec : {M : Type 1} → statement M
+cells-fit-spec =
+    tie.close
+    (tie.spec
+    Inv-loop
+    μ-loop
+    loop-holds
+    mul-if1
+    shared-slice-read-if1
+    add-i
+    loop-less
+    loop-again
+    returns
+    returns-2)

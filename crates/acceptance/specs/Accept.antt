@@ -1,0 +1,55 @@
+-- Who is refused, for what: the refusals 1 to 5 of document 01, in their order, each over everything before the next.
+-- Assumes nothing.
+use Prim.Native.Nat.{ℕ}
+use mathlib.Core.Bool.{Bool, true, false, not, cond}
+use mathlib.Core.List.{List, [], _∷_}
+use lib.Dec.{ltb, leb}
+use lib.ListN.{length}
+use Rattle.machine.specs.declared.Control.{Control}
+use Rattle.machine.specs.declared.Refusal.the-variants.{StoreSize, CellValue, ControlField, Lines, Budget}
+use Rattle.machine.specs.declared.Verdict.{Verdict}
+use Rattle.machine.specs.declared.Verdict.the-variants.{Accepted, Rejected}
+
+-- 1: fewer than 8 or more than 8,388,608 cells
+unfoldable pub sizeFits : ℕ → Bool
+sizeFits n = cond (ltb n 8) false (leb n 8388608)
+
+-- 2: a cell of 134,217,728 or more
+unfoldable pub cellFits : ℕ → Bool
+cellFits x = ltb x 134217728
+
+unfoldable pub cellsFit : List ℕ → Bool
+cellsFit [] = true
+cellsFit (x ∷ s) = let rest = cellsFit s in cond (ltb x 134217728) rest false
+
+-- the reset state implies monitor mode and interrupts disabled
+unfoldable pub stateFits : Control → Bool
+stateFits c = cond (c .reset) (cond (c .monitor) (not (c .enabled)) false) true
+
+-- 3: a control field outside the widths (24 bits, PR 128 to 255, EX 3 bits) and rules
+unfoldable pub controlFits : Control → Bool
+controlFits c =
+    cond (ltb (c .ic) 16777216)
+    (cond (ltb (c .ir) 16777216)
+    (cond (ltb (c .im) 16777216)
+    (cond (ltb (c .pending) 16777216)
+    (cond (ltb (c .pr) 128) false (cond (ltb (c .pr) 256) (cond (ltb (c .ex) 8) (stateFits c) false) false)) false) false) false)
+    false
+
+-- a store: 1, 2
+unfoldable pub judgeStore : List ℕ → Verdict
+judgeStore s = cond (sizeFits (length s)) (cond (cellsFit s) Accepted (Rejected CellValue)) (Rejected StoreSize)
+
+-- a machine, as the panel keys test it: 1, 2, 3
+unfoldable pub judgeMachine : List ℕ → Control → Verdict
+judgeMachine s c =
+    cond (sizeFits (length s)) (cond (cellsFit s) (cond (controlFits c) Accepted (Rejected ControlField)) (Rejected CellValue)) (Rejected StoreSize)
+
+-- 4: lines with bit 0, 1 or 2 set, or over 24 bits; 5: budget over 65,535
+abbrev pub judgeCall : Verdict → ℕ → ℕ → Verdict
+judgeCall Accepted l b = cond (ltb l 2097152) (cond (ltb b 65536) Accepted (Rejected Budget)) (Rejected Lines)
+judgeCall (Rejected r) l b = Rejected r
+
+-- a run: 1, 2, 3, 4, 5
+unfoldable pub judgeRun : List ℕ → Control → ℕ → ℕ → Verdict
+judgeRun s c l b = judgeCall (judgeMachine s c) l b

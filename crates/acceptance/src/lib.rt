@@ -1,0 +1,118 @@
+// The tests that stores, control records and runs are judged by, in the order of document 01.
+ghost use mathlib.Core.Path.{_≡_};
+ghost use lib.ListN.{length};
+ghost use Rattle.acceptance.specs.Accept.{sizeFits, cellFits, cellsFit, stateFits, controlFits, judgeStore, judgeMachine, judgeRun};
+use machine::Control;
+use machine::Refusal;
+use machine::Verdict;
+
+pub fn size_fits(n: usize) -> bool
+    ensures { λ r. ⌜ r ≡ sizeFits n ⌝ }
+{
+    if n < 8 {
+        return false;
+    }
+    n <= 8388608
+}
+
+pub fn cell_fits(x: u32) -> bool
+    ensures { λ r. ⌜ r ≡ cellFits x ⌝ }
+{
+    x < 134217728
+}
+
+pub fn cells_fit(s: &[u32]) -> bool
+    ensures { λ r. ⌜ r ≡ cellsFit (now (s .entry)) ⌝ }
+{
+    let mut i: usize = 0;
+    while i < s.len() {
+        if s[i] < 134217728 {
+            i += 1;
+        } else {
+            return false;
+        }
+    }
+    true
+}
+
+fn state_fits(c: Control) -> bool
+    ensures { λ r. ⌜ r ≡ stateFits c ⌝ }
+{
+    if c.reset {
+        if c.monitor { !c.enabled } else { false }
+    } else {
+        true
+    }
+}
+
+pub fn control_fits(c: Control) -> bool
+    ensures { λ r. ⌜ r ≡ controlFits c ⌝ }
+{
+    if c.ic < 16777216 {
+        if c.ir < 16777216 {
+            if c.im < 16777216 {
+                if c.pending < 16777216 {
+                    if c.pr < 128 {
+                        return false;
+                    }
+                    if c.pr < 256 {
+                        if c.ex < 8 {
+                            return state_fits(c);
+                        }
+                        return false;
+                    }
+                    return false;
+                }
+                return false;
+            }
+            return false;
+        }
+        return false;
+    }
+    false
+}
+
+pub fn judge_store(s: &[u32]) -> Verdict
+    ensures { λ r. ⌜ r ≡ judgeStore (now (s .entry)) ⌝ }
+{
+    if size_fits(s.len()) {
+        if cells_fit(s) {
+            return Verdict::Accepted;
+        }
+        return Verdict::Rejected(Refusal::CellValue);
+    }
+    Verdict::Rejected(Refusal::StoreSize)
+}
+
+pub fn judge_machine(s: &[u32], c: Control) -> Verdict
+    ensures { λ r. ⌜ r ≡ judgeMachine (now (s .entry)) c ⌝ }
+{
+    if size_fits(s.len()) {
+        if cells_fit(s) {
+            if control_fits(c) {
+                return Verdict::Accepted;
+            }
+            return Verdict::Rejected(Refusal::ControlField);
+        }
+        return Verdict::Rejected(Refusal::CellValue);
+    }
+    Verdict::Rejected(Refusal::StoreSize)
+}
+
+pub fn judge_run(s: &[u32], c: Control, lines: u32, budget: u32) -> Verdict
+    ensures { λ r. ⌜ r ≡ judgeRun (now (s .entry)) c lines budget ⌝ }
+{
+    let v = judge_machine(s, c);
+    match v {
+        Verdict::Accepted => {
+            if lines < 2097152 {
+                if budget < 65536 {
+                    return Verdict::Accepted;
+                }
+                return Verdict::Rejected(Refusal::Budget);
+            }
+            Verdict::Rejected(Refusal::Lines)
+        }
+        Verdict::Rejected(r) => Verdict::Rejected(r),
+    }
+}
