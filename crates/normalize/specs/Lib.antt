@@ -1,0 +1,3 @@
+-- What the contracts of `normalize` cite, and what is claimed of it.
+pub mod Norm
+pub mod Claims
