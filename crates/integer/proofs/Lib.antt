@@ -1,0 +1,3 @@
+-- Laws of the operations on single bits and on double words.
+pub mod Digits
+pub mod Double

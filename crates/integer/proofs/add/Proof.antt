@@ -1,0 +1,20 @@
+use Rattle.integer.specs.Sums.{sum}
+use borrow.Author.Needs.{needs}
+use Rattle.integer.proofs.add.Statement.{statement}
+use Rattle.integer.proofs.add.Tie as tie
+
+signed25-requires : tie.Need-signed25-requires
+signed25-requires c κs = search needs
+
+signed25-requires-2 : tie.Need-signed25-requires-2
+signed25-requires-2 c κs = search needs
+
+add-once-requires : tie.Need-add-once-requires
+add-once-requires c κs = search needs
+
+returns : tie.Need-returns
+unfolding sum
+returns c = (cc, search needs)
+
+pub add-spec : {M : Type 1} → statement M
+add-spec = tie.close (tie.spec signed25-requires signed25-requires-2 add-once-requires returns)

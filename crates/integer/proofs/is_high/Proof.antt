@@ -1,0 +1,20 @@
+use borrow.Author.Tests.{lt-ltb, le-ltb}
+use mathlib.Core.Path.{refl}
+use Rattle.integer.specs.Skip.{isHigh}
+use borrow.Author.Needs.{needs}
+use Rattle.integer.proofs.is_high.Statement.{statement}
+use Rattle.integer.proofs.is_high.Tie as tie
+
+compare-requires : tie.Need-compare-requires
+compare-requires c κs = search needs
+
+returns : tie.Need-returns
+unfolding isHigh
+returns c = rw (← c .before .compare .ensures, lt-ltb _ _ (c .if1 .taken)) refl
+
+returns-2 : tie.Need-returns-2
+unfolding isHigh
+returns-2 c = rw (← c .before .compare .ensures, le-ltb _ _ (c .if1 .left)) refl
+
+pub is-high-spec : {M : Type 1} → statement M
+is-high-spec = tie.close (tie.spec compare-requires returns returns-2)

@@ -1,0 +1,25 @@
+use Rattle.integer.specs.Sums.{differenceWithCarry}
+use borrow.Author.Needs.{needs}
+use Rattle.integer.proofs.subtract_with_carry.Statement.{statement}
+use Rattle.integer.proofs.subtract_with_carry.Tie as tie
+
+signed25-requires : tie.Need-signed25-requires
+signed25-requires c κs = search needs
+
+signed25-requires-2 : tie.Need-signed25-requires-2
+signed25-requires-2 c κs = search needs
+
+sub-add-once : tie.Need-sub-add-once
+sub-add-once c = search needs
+
+add-once-requires : tie.Need-add-once-requires
+add-once-requires c κs = search needs
+
+returns : tie.Need-returns
+unfolding differenceWithCarry
+returns c = (cc, search needs)
+
+pub subtract-with-carry-spec : {M : Type 1} → statement M
+subtract-with-carry-spec =
+    tie.close
+    (tie.spec signed25-requires signed25-requires-2 sub-add-once add-once-requires returns)
