@@ -1,0 +1,2 @@
+-- The law of the product.
+pub mod Product

@@ -1,0 +1,3 @@
+-- What the contract of `multiply` cites, and what is claimed of it.
+pub mod Wm
+pub mod Claims
