@@ -1,0 +1,3 @@
+-- Laws of normalizing and rounding AF.
+pub mod Left
+pub mod Once

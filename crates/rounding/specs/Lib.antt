@@ -1,0 +1,5 @@
+-- What the contracts of `rounding` cite.
+pub mod Round
+pub mod Store
+pub mod Convert
+pub mod Claims
