@@ -2,3 +2,4 @@ pub mod Store
 pub mod Fields
 pub mod Records
 pub mod Answers
+pub mod Format

@@ -12,6 +12,14 @@ use Rattle.machine.specs.declared.Control.{Control}
 unfoldable pub word : List ℕ → ℕ → ℕ
 word s i = getD s i 0 % 16777216
 
+-- Wpre: if FR(6:7) = 0 then 3 else FR(6:7) - 1
+abbrev pub previous : ℕ → ℕ
+previous w = (w + 3) % 4
+
+-- Wpre concat W
+unfoldable pub pair : List ℕ → ℕ → ℕ
+pair s w = word s (previous w) * 16777216 + word s w
+
 -- protection key(SB)
 unfoldable pub key : List ℕ → ℕ → ℕ
 key s i = getD s i 0 / 16777216 % 8
@@ -59,7 +67,3 @@ violation s c i = cond (c .monitor) false (forbids (c .pr) (key s i))
 -- if SB = 0 then 6 else SB - 2, of an address without its right-most bit (docs/DECISIONS.md C2)
 unfoldable pub firstWord : ℕ → ℕ
 firstWord a = cond (eqb (a / 2) 0) 6 (a / 2 * 2 - 2)
-
--- Wpre: if FR(6:7) = 0 then 3 else FR(6:7) - 1
-abbrev pub previous : ℕ → ℕ
-previous w = (w + 3) % 4

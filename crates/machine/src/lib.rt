@@ -3,10 +3,11 @@
 ghost use mathlib.Core.Path.{_≡_};
 ghost use Prim.Native.Nat.{ℕ, _+_, _*_, _/_, _%_, _<_};
 ghost use lib.ListN.{getD, set};
-ghost use Rattle.machine.specs.Store.{word, key, putWord, putKey, byte, withByte, putByte, putLink, absent, forbids, forbidden, violation, firstWord, previous};
+ghost use Rattle.machine.specs.Store.{word, pair, key, putWord, putKey, byte, withByte, putByte, putLink, absent, forbids, forbidden, violation, firstWord, previous};
 ghost use Rattle.machine.specs.Fields.{inTask, withIC, withIR, withIM, withPending, withPR, withEX, withEnabled, raised, flagsCleared, overflowed, carrySet};
 ghost use Rattle.machine.specs.Records.{freshRecord, resetRecord};
 ghost use Rattle.machine.specs.Answers.{refusalNumber, kindNumber};
+ghost use Rattle.machine.specs.Format.{takenApart};
 
 // The control record (document 01, "The machine").
 #[repr(C)]
@@ -62,6 +63,29 @@ impl Control {
             monitor: true,
             enabled: false,
             reset: true,
+        }
+    }
+}
+
+// The fields of an instruction word.
+pub struct Instruction {
+    pub code: u32,
+    pub w: u32,
+    pub m: u32,
+    pub x: u32,
+    pub d: u32,
+}
+
+impl Instruction {
+    pub fn of_word(v: u32) -> Instruction
+        ensures { λ r. ⌜ r ≡ takenApart v ⌝ }
+    {
+        Instruction {
+            code: v / 262144,
+            w: v / 65536 % 4,
+            m: v / 16384 % 4,
+            x: v / 4096 % 4,
+            d: v % 4096,
         }
     }
 }
@@ -281,6 +305,25 @@ pub fn put_byte(s: &mut [u32], a: u32, v: u32)
     let x = word_at(s, a / 2);
     let y = with_byte(x, a, v);
     put_word(s, a / 2, y);
+}
+
+fn joined(pre: u32, w: u32) -> u64
+    requires { ⌜ (pre < 16777216) × (w < 16777216) ⌝ }
+    ensures value { λ r. ⌜ r ≡ pre * 16777216 + w ⌝ }
+    ensures bound { λ r. ⌜ r < 281474976710656 ⌝ }
+{
+    (pre as u64) * 16777216 + w as u64
+}
+
+// Wpre concat W.
+pub fn pair_at(s: &[u32], w: u32) -> u64
+    ensures value { λ r. ⌜ r ≡ pair (now (s .entry)) w ⌝ }
+    ensures bound { λ r. ⌜ r < 281474976710656 ⌝ }
+{
+    let p = previous_register(w);
+    let a = word_at(s, p);
+    let b = word_at(s, w);
+    joined(a, b)
 }
 
 // if FR(6:7) <> 0 then W := v.

@@ -1,0 +1,3 @@
+pub mod MicroLaws
+pub mod Isolation
+pub mod Validity

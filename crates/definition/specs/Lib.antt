@@ -1,0 +1,5 @@
+pub mod Machine
+pub mod MicroOps
+pub mod Operands
+pub mod Bridge
+pub mod Protected

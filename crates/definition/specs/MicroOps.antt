@@ -1,0 +1,104 @@
+-- What an instruction does, as a list of micro-operations in the order of 14.8. A `MicroOp` may stand in any instruction, and none can change what
+-- is protected in task mode: a store tests protection itself. A `MonitorOp` may stand in a privileged instruction alone.
+-- A value is computed from the machine as it is when the micro-operation is done.
+-- Assumes nothing.
+use Prim.Native.Nat.{ℕ, _/_}
+use mathlib.Core.Bool.{Bool, cond}
+use mathlib.Core.List.{List, [], _∷_}
+use Rattle.machine.specs.declared.Fault.the-variants.{Unassigned, Absent, Privileged, Store, Jump}
+use Rattle.machine.specs.Store.{putWord, putKey, putByte, putLink, absent, violation, previous}
+use Rattle.machine.specs.Fields.{inTask, withIC, withIR, withIM, withPending, withPR, withEX, withEnabled, flagsCleared, overflowed, carrySet}
+use Rattle.integer.specs.Sums.{sum24}
+use Rattle.definition.specs.Machine.{Machine, machine, Effect, ok, fault, bind, resetSystem}
+
+abbrev pub Value : Type 0
+Value = Machine → ℕ
+
+pub data MicroOp : Type 0 where
+  -- Test Address
+  testAddress : ℕ → MicroOp
+  -- Test Protection, of a jump
+  testJump : ℕ → MicroOp
+  -- W := v, Wpre := v, by the instruction's own field: not a store
+  setW : Value → MicroOp
+  setWpre : Value → MicroOp
+  -- if FR(6:7) <> 0 then W := IC
+  link : MicroOp
+  -- Test Protection; word(a) := v, byte(a) := v
+  storeWord : ℕ → Value → MicroOp
+  storeByte : ℕ → Value → MicroOp
+  -- IC := v
+  setIC : Value → MicroOp
+  -- if test then IC := IC + 2
+  skipIf : (Machine → Bool) → MicroOp
+  -- EX(22:23) := 0
+  clearFlags : MicroOp
+  -- if v = 1 then EX(22) := IR(bit) := 1, where the weight of the bit is given
+  overflow : ℕ → Value → MicroOp
+  -- EX(23) := v
+  setCarry : Value → MicroOp
+  -- EX := v
+  setEX : Value → MicroOp
+  -- the modification of the next address
+  modify : Value → MicroOp
+
+pub data MonitorOp : Type 0 where
+  plain : MicroOp → MonitorOp
+  -- protection key(a) := v
+  setKey : ℕ → Value → MonitorOp
+  setPR : Value → MonitorOp
+  setIM : Value → MonitorOp
+  setIR : Value → MonitorOp
+  -- interrupt disabled := not e
+  setEnabled : Bool → MonitorOp
+
+pub data Operation : Type 0 where
+  unprivileged : List MicroOp → Operation
+  -- Test Mode; then the list
+  privileged : List MonitorOp → Operation
+  -- Test Mode; then Reset System, since device 0 is disconnected (docs/DECISIONS.md B11)
+  autoload : Operation
+  unassigned : Operation
+
+-- one micro-operation of an instruction whose register is w
+unfoldable pub microStep : ℕ → MicroOp → Machine → Effect
+microStep w (testAddress a) m = cond (absent (m .cells) a) (fault (Absent a) m) (ok m)
+microStep w (testJump a) m = cond (violation (m .cells) (m .control) (a / 2)) (fault (Jump a) m) (ok m)
+microStep w (setW v) m = ok (machine (putWord (m .cells) w (v m)) (m .control))
+microStep w (setWpre v) m = ok (machine (putWord (m .cells) (previous w) (v m)) (m .control))
+microStep w link m = ok (machine (putLink (m .cells) w (m .control .ic)) (m .control))
+microStep w (storeWord a v) m =
+    cond (violation (m .cells) (m .control) (a / 2)) (fault (Store a) m) (ok (machine (putWord (m .cells) (a / 2) (v m)) (m .control)))
+microStep w (storeByte a v) m =
+    cond (violation (m .cells) (m .control) (a / 2)) (fault (Store a) m) (ok (machine (putByte (m .cells) a (v m)) (m .control)))
+microStep w (setIC v) m = ok (machine (m .cells) (withIC (m .control) (v m)))
+microStep w (skipIf t) m = cond (t m) (ok (machine (m .cells) (withIC (m .control) (sum24 (m .control .ic) 2)))) (ok m)
+microStep w clearFlags m = ok (machine (m .cells) (flagsCleared (m .control)))
+microStep w (overflow b v) m = ok (machine (m .cells) (overflowed (m .control) (v m) b))
+microStep w (setCarry v) m = ok (machine (m .cells) (carrySet (m .control) (v m)))
+microStep w (setEX v) m = ok (machine (m .cells) (withEX (m .control) (v m)))
+microStep w (modify v) m = ok (machine (m .cells) (withPending (m .control) (v m)))
+
+-- a list of them: the first fault ends it
+unfoldable pub microSteps : ℕ → List MicroOp → Machine → Effect
+microSteps w [] m = ok m
+microSteps w (d ∷ ds) m = bind (microStep w d m) (λ n. microSteps w ds n)
+
+unfoldable pub monitorStep : ℕ → MonitorOp → Machine → Effect
+monitorStep w (plain d) m = microStep w d m
+monitorStep w (setKey a v) m = ok (machine (putKey (m .cells) (a / 2) (v m)) (m .control))
+monitorStep w (setPR v) m = ok (machine (m .cells) (withPR (m .control) (v m)))
+monitorStep w (setIM v) m = ok (machine (m .cells) (withIM (m .control) (v m)))
+monitorStep w (setIR v) m = ok (machine (m .cells) (withIR (m .control) (v m)))
+monitorStep w (setEnabled e) m = ok (machine (m .cells) (withEnabled (m .control) e))
+
+unfoldable pub monitorSteps : ℕ → List MonitorOp → Machine → Effect
+monitorSteps w [] m = ok m
+monitorSteps w (d ∷ ds) m = bind (monitorStep w d m) (λ n. monitorSteps w ds n)
+
+-- Test Mode: if not monitor mode then goto Instruction Exception
+unfoldable pub perform : ℕ → Operation → Machine → Effect
+perform w (unprivileged ds) m = microSteps w ds m
+perform w (privileged ds) m = cond (inTask (m .control)) (fault Privileged m) (monitorSteps w ds m)
+perform w autoload m = cond (inTask (m .control)) (fault Privileged m) (ok (resetSystem (m .cells) (m .control)))
+perform w unassigned m = fault Unassigned m

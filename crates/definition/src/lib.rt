@@ -1,0 +1,1 @@
+// The definition of the machine: micro-operations, instructions, codes. No code: see specs/.
