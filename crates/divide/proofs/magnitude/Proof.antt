@@ -1,0 +1,19 @@
+use Rattle.divide.specs.Wd.{abs24}
+use Rattle.registers.proofs.Tests.{tests}
+use borrow.Author.Needs.{needs}
+use Rattle.divide.proofs.magnitude.Statement.{statement}
+use Rattle.divide.proofs.magnitude.Tie as tie
+
+sub-result : tie.Need-sub-result
+sub-result c = search needs
+
+returns : tie.Need-returns
+unfolding abs24
+returns c = search tests
+
+returns-2 : tie.Need-returns-2
+unfolding abs24
+returns-2 c = search tests
+
+pub magnitude-spec : {M : Type 1} → statement M
+magnitude-spec = tie.close (tie.spec sub-result returns returns-2)

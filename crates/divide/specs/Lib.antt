@@ -1,0 +1,2 @@
+-- What the contract of `divide` cites.
+pub mod Wd
