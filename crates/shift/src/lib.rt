@@ -1,0 +1,188 @@
+// The shift operations, one place at a time.
+ghost use mathlib.Core.Path.{_≡_};
+ghost use Prim.Native.Nat.{_+_, _-_, _*_, _/_, _%_, _^_, _<_, _≤_};
+ghost use Rattle.registers.specs.Reg.{asr, shl, iter};
+ghost use Rattle.shift.specs.Shift.{places, leftStep, arithmetic, logical, half};
+
+// A register, and 1 where a shift to the left changed the sign.
+pub struct Shifted {
+    pub word: u64,
+    pub over: u32,
+}
+
+// How many places: m = abs(SB), or 48.
+fn count(m: u32) -> u32
+    ensures { λ r. ⌜ (r ≡ places m) × (r < 64) ⌝ }
+{
+    if m < 64 { m } else { 48 }
+}
+
+fn left_step24(x: Shifted) -> Shifted
+    requires { ⌜ (x .word < 2 ^ 24) × (x .over < 2) ⌝ }
+    ensures { λ r. ⌜ (r ≡ leftStep 24 x) × (r .word < 2 ^ 24) × (r .over < 2) ⌝ }
+{
+    let w = x.word;
+    let d = (w / 8388608 + w / 4194304 % 2) % 2;
+    Shifted {
+        word: w * 2 % 16777216,
+        over: registers::larger(x.over, d as u32),
+    }
+}
+
+fn left24(n: u32, w: u64) -> Shifted
+    requires { ⌜ w < 2 ^ 24 ⌝ }
+    ensures { λ r. ⌜ (r ≡ iter (leftStep 24) n (record { word = w; over = 0 })) × (r .word < 2 ^ 24) × (r .over < 2) ⌝ }
+{
+    let mut x = Shifted { word: w, over: 0 };
+    for i in 0..n {
+        x = left_step24(x);
+    }
+    x
+}
+
+fn right24(n: u32, w: u64) -> u64
+    requires { ⌜ w < 2 ^ 24 ⌝ }
+    ensures { λ r. ⌜ (r ≡ iter (asr 24) n w) × (r < 2 ^ 24) ⌝ }
+{
+    let mut x = w;
+    for i in 0..n {
+        x = x / 2 + x / 8388608 * 8388608;
+    }
+    x
+}
+
+// AS
+pub fn arithmetic24(sb: u32, w: u32) -> Shifted
+    requires { ⌜ (sb < 2 ^ 24) × (w < 2 ^ 24) ⌝ }
+    ensures value { λ r. ⌜ r ≡ arithmetic 24 sb w ⌝ }
+    ensures bounds { λ r. ⌜ (r .word < 2 ^ 24) × (r .over < 2) ⌝ }
+{
+    if sb < 8388608 {
+        left24(count(sb), w as u64)
+    } else {
+        Shifted {
+            word: right24(count(16777216 - sb), w as u64),
+            over: 0,
+        }
+    }
+}
+
+fn left_step48(x: Shifted) -> Shifted
+    requires { ⌜ (x .word < 2 ^ 48) × (x .over < 2) ⌝ }
+    ensures { λ r. ⌜ (r ≡ leftStep 48 x) × (r .word < 2 ^ 48) × (r .over < 2) ⌝ }
+{
+    let w = x.word;
+    let d = (w / 140737488355328 + w / 70368744177664 % 2) % 2;
+    Shifted {
+        word: w * 2 % 281474976710656,
+        over: registers::larger(x.over, d as u32),
+    }
+}
+
+fn left48(n: u32, w: u64) -> Shifted
+    requires { ⌜ w < 2 ^ 48 ⌝ }
+    ensures { λ r. ⌜ (r ≡ iter (leftStep 48) n (record { word = w; over = 0 })) × (r .word < 2 ^ 48) × (r .over < 2) ⌝ }
+{
+    let mut x = Shifted { word: w, over: 0 };
+    for i in 0..n {
+        x = left_step48(x);
+    }
+    x
+}
+
+fn right48(n: u32, w: u64) -> u64
+    requires { ⌜ w < 2 ^ 48 ⌝ }
+    ensures { λ r. ⌜ (r ≡ iter (asr 48) n w) × (r < 2 ^ 48) ⌝ }
+{
+    let mut x = w;
+    for i in 0..n {
+        x = x / 2 + x / 140737488355328 * 140737488355328;
+    }
+    x
+}
+
+// AD, x is Wpre concat W.
+pub fn arithmetic48(sb: u32, x: u64) -> Shifted
+    requires { ⌜ (sb < 2 ^ 24) × (x < 2 ^ 48) ⌝ }
+    ensures value { λ r. ⌜ r ≡ arithmetic 48 sb x ⌝ }
+    ensures bounds { λ r. ⌜ (r .word < 2 ^ 48) × (r .over < 2) ⌝ }
+{
+    if sb < 8388608 {
+        left48(count(sb), x)
+    } else {
+        Shifted {
+            word: right48(count(16777216 - sb), x),
+            over: 0,
+        }
+    }
+}
+
+fn logical_left24(n: u32, w: u32) -> u32
+    requires { ⌜ w < 2 ^ 24 ⌝ }
+    ensures { λ r. ⌜ (r ≡ iter (shl 24) n w) × (r < 2 ^ 24) ⌝ }
+{
+    let mut x = w;
+    for i in 0..n {
+        x = x * 2 % 16777216;
+    }
+    x
+}
+
+fn logical_right24(n: u32, w: u32) -> u32
+    requires { ⌜ w < 2 ^ 24 ⌝ }
+    ensures { λ r. ⌜ (r ≡ iter half n w) × (r < 2 ^ 24) ⌝ }
+{
+    let mut x = w;
+    for i in 0..n {
+        x = x / 2;
+    }
+    x
+}
+
+// LS
+pub fn logical24(sb: u32, w: u32) -> u32
+    requires { ⌜ (sb < 2 ^ 24) × (w < 2 ^ 24) ⌝ }
+    ensures value { λ r. ⌜ r ≡ logical 24 sb w ⌝ }
+    ensures bound { λ r. ⌜ r < 2 ^ 24 ⌝ }
+{
+    if sb < 8388608 {
+        logical_left24(count(sb), w)
+    } else {
+        logical_right24(count(16777216 - sb), w)
+    }
+}
+
+fn logical_left48(n: u32, w: u64) -> u64
+    requires { ⌜ w < 2 ^ 48 ⌝ }
+    ensures { λ r. ⌜ (r ≡ iter (shl 48) n w) × (r < 2 ^ 48) ⌝ }
+{
+    let mut x = w;
+    for i in 0..n {
+        x = x * 2 % 281474976710656;
+    }
+    x
+}
+
+fn logical_right48(n: u32, w: u64) -> u64
+    requires { ⌜ w < 2 ^ 48 ⌝ }
+    ensures { λ r. ⌜ (r ≡ iter half n w) × (r < 2 ^ 48) ⌝ }
+{
+    let mut x = w;
+    for i in 0..n {
+        x = x / 2;
+    }
+    x
+}
+
+// LD, x is Wpre concat W.
+pub fn logical48(sb: u32, x: u64) -> u64
+    requires { ⌜ (sb < 2 ^ 24) × (x < 2 ^ 48) ⌝ }
+    ensures value { λ r. ⌜ r ≡ logical 48 sb x ⌝ }
+    ensures bound { λ r. ⌜ r < 2 ^ 48 ⌝ }
+{
+    if sb < 8388608 {
+        logical_left48(count(sb), x)
+    } else {
+        logical_right48(count(16777216 - sb), x)
+    }
+}
