@@ -1,0 +1,2 @@
+-- Laws of floating-point division.
+pub mod Ends

@@ -1,0 +1,46 @@
+use Rattle.floating.specs.Convert.{cf}
+use borrow.Author.Needs.{needs}
+use Rattle.floating.proofs.conversion.convert.Statement.{statement}
+use Rattle.floating.proofs.conversion.convert.Tie as tie
+
+signed24-requires : tie.Need-signed24-requires
+signed24-requires c κs = search needs
+
+sub-n : tie.Need-sub-n
+sub-n c = search needs
+
+add-n : tie.Need-add-n
+add-n c = search needs
+
+sub-n-2 : tie.Need-sub-n-2
+sub-n-2 c = search needs
+
+add-n-2 : tie.Need-add-n-2
+add-n-2 c = search needs
+
+add-with : tie.Need-add-with
+add-with c = search needs
+
+register-fraction-requires : tie.Need-register-fraction-requires
+register-fraction-requires c κs = search needs
+
+with-requires : tie.Need-with-requires
+with-requires c κs = search needs
+
+returns : tie.Need-returns
+unfolding cf
+returns c = cc
+
+pub convert-spec : {M : Type 1} → statement M
+convert-spec =
+    tie.close
+    (tie.spec
+    signed24-requires
+    sub-n
+    add-n
+    sub-n-2
+    add-n-2
+    add-with
+    register-fraction-requires
+    with-requires
+    returns)

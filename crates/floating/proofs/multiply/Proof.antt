@@ -1,0 +1,17 @@
+use Rattle.floating.specs.Multiply.{fm}
+use borrow.Author.Needs.{needs}
+use Rattle.floating.proofs.multiply.Statement.{statement}
+use Rattle.floating.proofs.multiply.Tie as tie
+
+fetch-requires : tie.Need-fetch-requires
+fetch-requires c κs = search needs
+
+multiply-floating-requires : tie.Need-multiply-floating-requires
+multiply-floating-requires c κs = search needs
+
+returns : tie.Need-returns
+unfolding fm
+returns c = cc
+
+pub multiply-spec : {M : Type 1} → statement M
+multiply-spec = tie.close (tie.spec fetch-requires multiply-floating-requires returns)

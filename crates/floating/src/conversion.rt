@@ -1,0 +1,64 @@
+// Convert Floating to Integer.
+ghost use mathlib.Core.Path.{_≡_};
+ghost use Prim.Native.Nat.{_+_, _-_, _*_, _/_, _%_, _^_, _<_};
+ghost use Rattle.floating.specs.Operands.{fraction, registerFraction};
+ghost use Rattle.floating.specs.Convert.{cfRounded, cfEnd, cfWith, cf};
+use super::Converted;
+use super::accumulator;
+
+// The rounding, and the test for overflow.
+fn rounded(word: u32, af: u64) -> Converted
+    requires { ⌜ af < 2 ^ 39 ⌝ }
+    ensures { λ r. ⌜ r ≡ cfEnd word (cfRounded af) ⌝ }
+{
+    let t = (af + af / 8192 % 2 * 16384) % 549755813888;
+    if t / 274877906944 == t / 137438953472 % 2 {
+        Converted {
+            word: t / 16384 % 16777216,
+            over: 0,
+        }
+    } else {
+        Converted {
+            word: word as u64,
+            over: 1,
+        }
+    }
+}
+
+// b is SB + 2 ** 23.
+fn with(b: u32, word: u32, af: u64) -> Converted
+    requires { ⌜ af < 2 ^ 39 ⌝ }
+    ensures { λ r. ⌜ r ≡ cfWith b word af ⌝ }
+{
+    if b < 8388608 {
+        if af == 0 {
+            return rounded(word, af);
+        }
+        return Converted {
+            word: word as u64,
+            over: 1,
+        };
+    }
+    if b >= 8388672 {
+        return rounded(word, 0);
+    }
+    rounded(word, accumulator::shift_af(b - 8388608, af))
+}
+
+// AF(-1:35) := signed Wfrac; AF(36:37) := 0.
+fn register_fraction(pre: u32, word: u32) -> u64
+    requires { ⌜ (pre < 2 ^ 24) × (word < 2 ^ 24) ⌝ }
+    ensures { λ r. ⌜ (r ≡ registerFraction (fraction pre word)) × (r < 2 ^ 39) ⌝ }
+{
+    let f = pre as u64 * 4096 + word as u64 / 4096;
+    (f + f / 34359738368 * 68719476736) * 4
+}
+
+pub fn convert(pre: u32, word: u32, sb: u32) -> Converted
+    requires { ⌜ (pre < 2 ^ 24) × (word < 2 ^ 24) × (sb < 2 ^ 24) ⌝ }
+    ensures { λ r. ⌜ r ≡ cf pre word sb ⌝ }
+{
+    let e = registers::signed24(word % 4096);
+    let n = (23 + (16777216 - sb) + (16777216 - e)) % 16777216;
+    with((n + 8388608) % 16777216, word, register_fraction(pre, word))
+}
