@@ -10,7 +10,7 @@ use Rattle.machine.specs.declared.Control.{Control}
 use Rattle.machine.specs.Store.{putWord, putByte, putLink, absent, violation, previous}
 use Rattle.machine.specs.Fields.{withIC, withIR, withPending, withEX, raised, flagsCleared, overflowed, carrySet}
 use Rattle.definition.specs.Machine.{Machine, machine, Effect, ok, fault, bind}
-use Rattle.definition.specs.MicroOps.{MicroOp, testAddress, testJump, setW, setWpre, link, storeWord, storeByte, setIC, skipIf, clearFlags, overflow, setCarry, setEX, modify, microStep, microSteps}
+use Rattle.definition.specs.MicroOps.{MicroOp, testAddress, testJump, setW, setWpre, link, storeWord, storeByte, setIC, skipIf, clearFlags, overflow, setCarry, setEX, modify, skipped, microStep, microSteps}
 
 -- the machine that an effect leaves
 abbrev pub reached : Effect → Machine
@@ -46,8 +46,12 @@ module _ (P : Machine → Type 0) where
     reach-overflow true v x n h = h
     reach-overflow false v x n h = c .interrupts _ (machine (n .cells) (withEX (n .control) v)) (c .exception v n h)
 
+    reach-skip : (b : Bool) (v : ℕ) (n : Machine) → P n → P (machine (n .cells) (cond b (withIC (n .control) v) (n .control)))
+    reach-skip true v n h = c .counter v n h
+    reach-skip false v n h = h
+
     pub reach-step : (w : ℕ) (d : MicroOp) (n : Machine) → w < 4 → P n → P (reached (microStep w d n))
-    unfolding microStep putByte putLink flagsCleared overflowed carrySet
+    unfolding microStep skipped putByte putLink flagsCleared overflowed carrySet
     reach-step w (testAddress a) n l h = reach-cond (absent (n .cells) a) _ _ (λ e. h) (λ e. h)
     reach-step w (testJump a) n l h = reach-cond (violation (n .cells) (n .control) (a / 2)) _ _ (λ e. h) (λ e. h)
     reach-step w (setW v) n l h = c .register w (v n) n l h
@@ -56,7 +60,7 @@ module _ (P : Machine → Type 0) where
     reach-step w (storeWord a v) n l h = reach-cond (violation (n .cells) (n .control) (a / 2)) _ _ (λ e. h) (λ e. c .stored (a / 2) (v n) n e h)
     reach-step w (storeByte a v) n l h = reach-cond (violation (n .cells) (n .control) (a / 2)) _ _ (λ e. h) (λ e. c .stored (a / 2) _ n e h)
     reach-step w (setIC v) n l h = c .counter (v n) n h
-    reach-step w (skipIf t) n l h = reach-cond (t n) _ _ (λ e. c .counter _ n h) (λ e. h)
+    reach-step w (skipIf t) n l h = reach-skip (t n) _ n h
     reach-step w clearFlags n l h = c .exception _ n h
     reach-step w (overflow b v) n l h = reach-overflow (eqb (v n) 0) _ b n h
     reach-step w (setCarry v) n l h = c .exception _ n h

@@ -1,5 +1,7 @@
 pub mod Machine
 pub mod MicroOps
 pub mod Operands
+pub mod Meaning
+pub mod Codes
 pub mod Bridge
 pub mod Protected

@@ -5,6 +5,7 @@
 use Prim.Native.Nat.{ℕ, _/_}
 use mathlib.Core.Bool.{Bool, cond}
 use mathlib.Core.List.{List, [], _∷_}
+use Rattle.machine.specs.declared.Control.{Control}
 use Rattle.machine.specs.declared.Fault.the-variants.{Unassigned, Absent, Privileged, Store, Jump}
 use Rattle.machine.specs.Store.{putWord, putKey, putByte, putLink, absent, violation, previous}
 use Rattle.machine.specs.Fields.{inTask, withIC, withIR, withIM, withPending, withPR, withEX, withEnabled, flagsCleared, overflowed, carrySet}
@@ -60,6 +61,10 @@ pub data Operation : Type 0 where
   autoload : Operation
   unassigned : Operation
 
+-- if test then IC := IC + 2
+unfoldable pub skipped : Control → Bool → Control
+skipped c t = cond t (withIC c (sum24 (c .ic) 2)) c
+
 -- one micro-operation of an instruction whose register is w
 unfoldable pub microStep : ℕ → MicroOp → Machine → Effect
 microStep w (testAddress a) m = cond (absent (m .cells) a) (fault (Absent a) m) (ok m)
@@ -72,7 +77,7 @@ microStep w (storeWord a v) m =
 microStep w (storeByte a v) m =
     cond (violation (m .cells) (m .control) (a / 2)) (fault (Store a) m) (ok (machine (putByte (m .cells) a (v m)) (m .control)))
 microStep w (setIC v) m = ok (machine (m .cells) (withIC (m .control) (v m)))
-microStep w (skipIf t) m = cond (t m) (ok (machine (m .cells) (withIC (m .control) (sum24 (m .control .ic) 2)))) (ok m)
+microStep w (skipIf t) m = ok (machine (m .cells) (skipped (m .control) (t m)))
 microStep w clearFlags m = ok (machine (m .cells) (flagsCleared (m .control)))
 microStep w (overflow b v) m = ok (machine (m .cells) (overflowed (m .control) (v m) b))
 microStep w (setCarry v) m = ok (machine (m .cells) (carrySet (m .control) (v m)))

@@ -1,0 +1,87 @@
+-- A cycle in task mode keeps the protected part, save words 8 and 10 where it enters an interruption. No instruction is looked at.
+-- Assumes nothing.
+use Prim.Native.Nat.{ℕ, _+_, _-_, _*_, _/_, _%_, _≤_, _<_}
+use native.Mathlib.Omega.{arith}
+use mathlib.Core.Path.{_≡_, refl, sym, _∙_}
+use mathlib.Core.Bool.{Bool, true, false, cond}
+use lib.Dec.{ltb}
+use Rattle.machine.specs.declared.Control.{Control}
+use Rattle.machine.specs.declared.Instruction.{Instruction}
+use Rattle.machine.specs.Store.{word, putWord, absent, violation}
+use Rattle.machine.specs.Fields.{withIC, withIR}
+use Rattle.machine.specs.Records.{interruptionProgram}
+use Rattle.machine.specs.Format.{takenApart}
+use Rattle.integer.specs.Sums.{sum24}
+use Rattle.definition.specs.Machine.{Machine, machine, Effect, ok, fault}
+use Rattle.definition.specs.Codes.{executing, operating}
+use Rattle.definition.specs.Protected.{InTaskMode, EqualProtected}
+use Rattle.definition.proofs.MicroLaws.{reached, reach-cond}
+use Rattle.definition.proofs.Isolation.{equal-trans, equal-fewer, equal-put, equal-control, Isolated, isolated-control, allowed-cell, isolated-perform}
+use Rattle.running.specs.Runs.{CycleResult, instruction, entry}
+use Rattle.running.specs.Cycle.{lineOf, lineCleared, entryRecord, enter, fetched, address, indirectAbsent, operate, fetchRecord, decode, fetch, concluded, cycle}
+use Rattle.running.proofs.RunLaws.{Meets}
+
+-- `n` has entered an interruption with the protected part of `m`, save words 8 and 10
+pub record Entry (m n : Machine) : Type 0 where
+  pub equal : EqualProtected 12 m n
+  pub monitor : n .control .monitor ≡ true
+  pub disabled : n .control .enabled ≡ false
+  pub starts : n .control .ic ≡ word (n .cells) (interruptionProgram / 2) / 2 * 2
+
+enter-entry : {m : Machine} (v : ℕ) (n : Machine) → Isolated m n → Entry m (enter v (n .cells) (n .control))
+unfolding enter entryRecord
+enter-entry v n h =
+    let first : Machine = machine (putWord (n .cells) 4 v) (n .control) in
+    let second : Machine = machine (putWord (first .cells) 5 (n .control .ic)) (n .control) in
+    record {
+      equal =
+          equal-trans (equal-fewer 12 (omega arith) (h .equal))
+          (equal-trans (equal-put 12 n 4 v (λ j l f. omega arith))
+          (equal-trans (equal-put 12 first 5 (n .control .ic) (λ j l f. omega arith)) (equal-control 12 second _ refl refl)));
+      monitor = refl;
+      disabled = refl;
+      starts = refl;
+    }
+
+isolated-operate : {m : Machine} (i : Instruction) (a : ℕ) (n : Machine) → i .w < 4 → Isolated m n → Isolated m (reached (operate (n .cells) (n .control) i a))
+unfolding operate operating executing
+isolated-operate {m} i a n l h = reach-cond (Isolated m) (indirectAbsent (n .cells) (i .m) a) _ _ (λ e. h) (λ e. isolated-perform m (i .w) _ n l h)
+
+isolated-record : {m : Machine} (n : Machine) (b : Bool) → b ≡ false → Isolated m n → Isolated m (machine (n .cells) (fetchRecord (n .control) b))
+unfolding fetchRecord
+isolated-record n b e h = isolated-control _ refl refl (e ∙ sym (h .task)) h
+
+register-field : (v : ℕ) → takenApart v .w < 4
+unfolding takenApart
+register-field v = omega arith
+
+isolated-decode : {m : Machine} (n : Machine) → Isolated m n → Isolated m (reached (decode (n .cells) (n .control)))
+unfolding decode withIC
+isolated-decode {m} n h =
+    reach-cond (Isolated m) (violation (n .cells) (n .control) (n .control .ic / 2)) _ _ (λ e. isolated-control _ refl refl refl h)
+    (λ e. isolated-operate _ _ _ (register-field (fetched (n .cells) (n .control .ic))) (isolated-record n _ (allowed-cell n (n .control .ic / 2) (h .task) e) h))
+
+isolated-fetch : {m : Machine} (n : Machine) → Isolated m n → Isolated m (reached (fetch (n .cells) (n .control)))
+unfolding fetch
+isolated-fetch {m} n h =
+    reach-cond (Isolated m) (absent (n .cells) (n .control .ic)) _ _ (λ e. h)
+    (λ e. reach-cond (Isolated m) (absent (n .cells) (sum24 (n .control .ic) 1)) _ _ (λ f. h) (λ f. isolated-decode n h))
+
+-- between cycles `Isolated m`, after an entry `Entry m`
+abbrev pub Isolates : Machine → CycleResult Machine → Type 0
+Isolates m = Meets (Isolated m) (λ k. Entry m)
+
+concluded-isolates : {m : Machine} (e : Effect) → Isolated m (reached e) → Isolates m (concluded e)
+unfolding concluded
+concluded-isolates (ok n) h = h
+concluded-isolates (fault f n) h = enter-entry 0 n h
+
+isolates-cond : (m : Machine) (b : Bool) (x y : CycleResult Machine) → Isolates m x → Isolates m y → Isolates m (cond b x y)
+isolates-cond m true x y p q = p
+isolates-cond m false x y p q = q
+
+pub cycle-isolates : (m n : Machine) → Isolated m n → Isolates m (cycle n)
+unfolding cycle lineCleared withIR
+cycle-isolates m n h =
+    isolates-cond m (ltb (lineOf (n .control)) 24) _ _ (enter-entry _ (machine (n .cells) (lineCleared (n .control) (lineOf (n .control)))) (isolated-control _ refl refl refl h))
+    (concluded-isolates (fetch (n .cells) (n .control)) (isolated-fetch n h))

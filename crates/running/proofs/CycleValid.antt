@@ -1,0 +1,99 @@
+-- A cycle takes an accepted machine outside the reset state to an accepted machine.
+-- Assumes nothing.
+use Prim.Native.Nat.{ℕ, _+_, _-_, _*_, _/_, _%_, _≤_, _<_}
+use native.Mathlib.Omega.{arith}
+use mathlib.Core.Path.{_≡_, refl, sym, _∙_}
+use mathlib.Core.Bool.{Bool, true, false, cond}
+use lib.Dec.{ltb}
+use Rattle.machine.specs.declared.Control.{Control}
+use Rattle.machine.specs.declared.Instruction.{Instruction}
+use Rattle.machine.specs.Store.{word, putWord, absent, violation}
+use Rattle.machine.specs.Fields.{withIC, withIR, raised}
+use Rattle.machine.specs.Format.{takenApart}
+use Rattle.machine.proofs.StoreLaws.{word-lt}
+use Rattle.acceptance.specs.Accept.{stateFits}
+use Rattle.integer.specs.Sums.{sum24}
+use Rattle.definition.specs.Machine.{Machine, machine, Effect, ok, fault}
+use Rattle.definition.specs.Codes.{executing, operating}
+use Rattle.definition.proofs.MicroLaws.{reached, reach-cond}
+use Rattle.definition.proofs.Validity.{Valid, Live, valid-put, valid-control, live-control, valid-reset, valid-perform}
+use Rattle.running.specs.Runs.{CycleResult, instruction, entry}
+use Rattle.running.specs.Cycle.{lineOf, lineCleared, entryRecord, enter, fetched, address, indirectAbsent, operate, fetchRecord, decode, fetch, concluded, cycle}
+use Rattle.running.specs.Run.{inReset, joined}
+use Rattle.running.specs.Keys.{resetKey, startRecord, startKey}
+use Rattle.running.proofs.RunLaws.{Meets}
+
+state-entry : (r : Bool) → cond r (cond true true false) true ≡ true
+state-entry true = refl
+state-entry false = refl
+
+valid-enter : (v : ℕ) (n : Machine) → Valid n → Valid (enter v (n .cells) (n .control))
+unfolding enter entryRecord stateFits
+valid-enter v n h =
+    let first : Machine = machine (putWord (n .cells) 4 v) (n .control) in
+    let second : Machine = machine (putWord (first .cells) 5 (n .control .ic)) (n .control) in
+    valid-control second _ (omega (arith, h .widths, word-lt (second .cells) 6)) (state-entry (n .control .reset))
+    (valid-put 5 (n .control .ic) first (valid-put 4 v n h))
+
+live-record : (n : Machine) (b : Bool) → Live n → Live (machine (n .cells) (fetchRecord (n .control) b))
+unfolding fetchRecord sum24
+live-record n b h = live-control n _ (omega (arith, h .valid .widths)) refl h
+
+valid-operate : (i : Instruction) (a : ℕ) (n : Machine) → i .w < 4 → Live n → Valid (reached (operate (n .cells) (n .control) i a))
+unfolding operate operating executing
+valid-operate i a n l h = reach-cond Valid (indirectAbsent (n .cells) (i .m) a) _ _ (λ e. h .valid) (λ e. valid-perform (i .w) _ n l h)
+
+register-field : (v : ℕ) → takenApart v .w < 4
+unfolding takenApart
+register-field v = omega arith
+
+valid-decode : (n : Machine) → Live n → Valid (reached (decode (n .cells) (n .control)))
+unfolding decode withIC
+valid-decode n h =
+    reach-cond Valid (violation (n .cells) (n .control) (n .control .ic / 2)) _ _ (λ e. live-control n _ (omega (arith, h .valid .widths)) refl h .valid)
+    (λ e. valid-operate _ _ _ (register-field (fetched (n .cells) (n .control .ic))) (live-record n _ h))
+
+valid-fetch : (n : Machine) → Live n → Valid (reached (fetch (n .cells) (n .control)))
+unfolding fetch
+valid-fetch n h =
+    reach-cond Valid (absent (n .cells) (n .control .ic)) _ _ (λ e. h .valid)
+    (λ e. reach-cond Valid (absent (n .cells) (sum24 (n .control .ic) 1)) _ _ (λ f. h .valid) (λ f. valid-decode n h))
+
+abbrev Stays : CycleResult Machine → Type 0
+Stays = Meets Valid (λ k. Valid)
+
+concluded-valid : (e : Effect) → Valid (reached e) → Stays (concluded e)
+unfolding concluded
+concluded-valid (ok n) h = h
+concluded-valid (fault f n) h = valid-enter 0 n h
+
+stays-cond : (b : Bool) (x y : CycleResult Machine) → Stays x → Stays y → Stays (cond b x y)
+stays-cond true x y p q = p
+stays-cond false x y p q = q
+
+pub cycle-valid : (m : Machine) → inReset m ≡ false → Valid m → Meets Valid (λ k. Valid) (cycle m)
+unfolding cycle lineCleared withIR
+cycle-valid m e h =
+    let live : Live m = record { valid = h; running = e } in
+    stays-cond (ltb (lineOf (m .control)) 24) _ _
+    (valid-enter _ (machine (m .cells) (lineCleared (m .control) (lineOf (m .control)))) (live-control m _ (omega (arith, h .widths)) refl live .valid))
+    (concluded-valid (fetch (m .cells) (m .control)) (valid-fetch m live))
+
+pub valid-joined : (l : ℕ) (m : Machine) → Valid m → Valid (joined l m)
+unfolding raised withIR stateFits
+valid-joined l m h = valid-control m _ (omega (arith, h .widths)) (h .state) h
+
+-- ---- the panel keys
+
+either : (P : Machine → Type 0) (b : Bool) (x y : Machine) → (b ≡ true → P x) → (b ≡ false → P y) → P (cond b x y)
+either P true x y p q = p refl
+either P false x y p q = q refl
+
+pub valid-resetKey : (m : Machine) → Valid m → Valid (resetKey (m .cells) (m .control))
+unfolding resetKey
+valid-resetKey m h = either Valid (m .control .reset) _ _ (λ e. h) (λ e. valid-reset m h)
+
+pub valid-startKey : (m : Machine) → Valid m → Valid (startKey (m .cells) (m .control))
+unfolding startKey startRecord stateFits
+valid-startKey m h =
+    either Valid (m .control .reset) _ _ (λ e. valid-control m _ (omega (arith, h .widths, word-lt (m .cells) 7)) refl h) (λ e. h)

@@ -1,0 +1,5 @@
+pub mod RunLaws
+pub mod CallLaws
+pub mod CycleIsolates
+pub mod CycleValid
+pub mod Promises

@@ -1,0 +1,126 @@
+-- 14.5: one cycle, in the order of the manual: lines, fetch, decode, effective address, operation; and the interruption entry.
+-- Assumes nothing.
+use Prim.Native.Nat.{ℕ, zero, suc, _+_, _-_, _*_, _/_, _%_, _^_}
+use mathlib.Core.Bool.{Bool, true, false, cond}
+use mathlib.Core.List.{List}
+use lib.Dec.{eqb, ltb}
+use Rattle.machine.specs.declared.Control.{Control}
+use Rattle.machine.specs.declared.Instruction.{Instruction}
+use Rattle.machine.specs.declared.Fault.the-variants.{Absent, Jump}
+use Rattle.machine.specs.declared.Kind.the-variants.{Exception, Line}
+use Rattle.machine.specs.Store.{word, byte, putWord, absent, forbidden, violation}
+use Rattle.machine.specs.Fields.{withIC, withIR}
+use Rattle.machine.specs.Records.{interruptNumber, returnAddress, interruptionProgram}
+use Rattle.machine.specs.Format.{takenApart}
+use Rattle.integer.specs.Sums.{sum24}
+use Rattle.definition.specs.Machine.{Machine, machine, Effect, ok, fault}
+use Rattle.definition.specs.Codes.{operating}
+use Rattle.running.specs.Runs.{CycleResult, instruction, entry}
+
+-- ---- Interruption Service
+
+-- bit p of a 24-bit register, bit 0 the left-most
+unfoldable pub bitOf : ℕ → ℕ → ℕ
+bitOf x p = x / 2 ^ (23 - p) % 2
+
+-- IR(bit) = 1 and IM(bit) = 1
+unfoldable pub requested : ℕ → ℕ → ℕ → Bool
+requested ir im p = cond (eqb (bitOf ir p) 1) (eqb (bitOf im p) 1) false
+
+-- for bit := 0 step 1 until 23: the first of the n positions from p on that is requested, or p + n
+unfoldable pub firstRequest : ℕ → ℕ → ℕ → ℕ → ℕ
+firstRequest zero p ir im = p
+firstRequest (suc n) p ir im = let rest = firstRequest n (p + 1) ir im in cond (requested ir im p) p rest
+
+-- lines are looked at if interrupts are enabled and no modification is pending (document 01: an AM that leaves 0 counts as none)
+unfoldable pub looksAtLines : Control → Bool
+looksAtLines c = cond (c .enabled) (eqb (c .pending) 0) false
+
+-- the position of the line to be taken, or 24
+unfoldable pub lineOf : Control → ℕ
+lineOf c = cond (looksAtLines c) (firstRequest 24 0 (c .ir) (c .im)) 24
+
+-- bit p of x where it stands, all others zero
+unfoldable pub bitAlone : ℕ → ℕ → ℕ
+bitAlone x p = x / 2 ^ (23 - p) % 2 * 2 ^ (23 - p)
+
+-- IR(bit) := 0
+unfoldable pub lineCleared : Control → ℕ → Control
+lineCleared c p = withIR c (c .ir - bitAlone (c .ir) p)
+
+-- IC := a; IC(23) := 0; monitor mode := interrupt disabled := true; nothing pending
+unfoldable pub entryRecord : Control → ℕ → Control
+entryRecord c a = record { ic = a / 2 * 2; ir = c .ir; im = c .im; pending = 0; pr = c .pr; ex = c .ex; monitor = true; enabled = false; reset = c .reset }
+
+-- word(8) := number; word(10) := IC; IC := word(12): protection does not hinder the two writes
+unfoldable pub enter : ℕ → List ℕ → Control → Machine
+enter n s c =
+    let t = putWord (putWord s (interruptNumber / 2) n) (returnAddress / 2) (c .ic) in machine t (entryRecord c (word t (interruptionProgram / 2)))
+
+-- ---- Fetch Instruction
+
+-- FR := byte(IC); SB := byte(IC + 1): at an even IC one word (law `fetched-bytes`), at an odd one the right half of IC's cell and the left half of
+-- the next (docs/DECISIONS.md B2)
+unfoldable pub fetched : List ℕ → ℕ → ℕ
+fetched s ic = cond (eqb (ic % 2) 0) (word s (ic / 2)) (byte s ic * 4096 + byte s (sum24 ic 1))
+
+-- ---- Decode Instruction
+
+-- SB := signed byte(IC + 1)
+unfoldable pub displacement : ℕ → ℕ
+displacement d = cond (ltb d 2048) d (d + 16773120)
+
+-- if FR(8) <> 0 then SB := SB + AR(0:23), the address of this instruction
+unfoldable pub relative : ℕ → ℕ → ℕ → ℕ
+relative m ic a = cond (ltb m 2) a (sum24 a ic)
+
+-- if FR(10:11) <> 0 then SB := SB + W(FR(10:11))
+unfoldable pub indexed : List ℕ → ℕ → ℕ → ℕ
+indexed s x a = cond (eqb x 0) a (sum24 a (word s x))
+
+-- the displacement with the pending modification, relative addressing, indexing
+unfoldable pub address : List ℕ → Control → Instruction → ℕ
+address s c i = indexed s (i .x) (relative (i .m) (c .ic) (sum24 (displacement (i .d)) (c .pending)))
+
+-- if FR(9) <> 0 then Test Address
+unfoldable pub indirectAbsent : List ℕ → ℕ → ℕ → Bool
+indirectAbsent s m a = cond (eqb (m % 2) 0) false (absent s a)
+
+-- if FR(9) <> 0 then SB := word(SB)
+unfoldable pub effectiveAddress : List ℕ → ℕ → ℕ → ℕ
+effectiveAddress s m a = cond (eqb (m % 2) 0) a (word s (a / 2))
+
+-- goto operation(FR(0:5)), with the address a before indirection
+unfoldable pub operate : List ℕ → Control → Instruction → ℕ → Effect
+operate s c i a =
+    cond (indirectAbsent s (i .m) a) (fault (Absent a) (machine s c)) (operating (i .code) (i .w) (effectiveAddress s (i .m) a) s c)
+
+-- IC := IC + 2; monitor mode := PR(PK) = 1; the pending modification is used up
+unfoldable pub fetchRecord : Control → Bool → Control
+fetchRecord c p = record { ic = sum24 (c .ic) 2; ir = c .ir; im = c .im; pending = 0; pr = c .pr; ex = c .ex; monitor = p; enabled = c .enabled; reset = c .reset }
+
+-- IC := IC + 2; if not monitor mode and PR(PK) = 1 then goto Instruction Exception; ..
+unfoldable pub decode : List ℕ → Control → Effect
+decode s c =
+    let i = takenApart (fetched s (c .ic)) in
+    cond (violation s c (c .ic / 2)) (fault (Jump (c .ic)) (machine s (withIC c (sum24 (c .ic) 2))))
+    (operate s (fetchRecord c (forbidden s c (c .ic / 2))) i (address s c i))
+
+-- if IC > word limit then goto Instruction Exception; and so where IC + 1 does not exist (docs/DECISIONS.md B2)
+unfoldable pub fetch : List ℕ → Control → Effect
+fetch s c =
+    cond (absent s (c .ic)) (fault (Absent (c .ic)) (machine s c))
+    (cond (absent s (sum24 (c .ic) 1)) (fault (Absent (sum24 (c .ic) 1)) (machine s c)) (decode s c))
+
+-- ---- the cycle
+
+-- Instruction Exception: an entry with the number 0, IR as it is (docs/DECISIONS.md B8)
+unfoldable pub concluded : Effect → CycleResult Machine
+concluded (ok m) = instruction m
+concluded (fault f m) = entry Exception (enter 0 (m .cells) (m .control))
+
+-- Next Instruction: a line is taken, or an instruction is executed; the number stored is twice the line's position
+unfoldable pub cycle : Machine → CycleResult Machine
+cycle m =
+    let p = lineOf (m .control) in
+    cond (ltb p 24) (entry (Line (p * 2)) (enter (p * 2) (m .cells) (lineCleared (m .control) p))) (concluded (fetch (m .cells) (m .control)))

@@ -1,0 +1,9 @@
+pub mod Runs
+pub mod Calls
+pub mod Cycle
+pub mod Run
+pub mod Keys
+pub mod Bridge
+pub mod Promises
+pub mod Opened
+pub mod Table

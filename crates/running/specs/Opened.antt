@@ -1,0 +1,38 @@
+-- `unfolding opened` unfolds all of the definition, so that a closed run computes.
+-- Assumes nothing.
+use Prim.Native.Nat.{ℕ}
+use Rattle.machine.specs.Fields.{inTask, withIC, withIR, withIM, withPending, withPR, withEX, withEnabled, raised, flagsCleared, overflowed, carrySet}
+use Rattle.machine.specs.Format.{takenApart}
+use Rattle.machine.specs.Records.{resetRecord}
+use Rattle.machine.specs.Store.{word, pair, key, putWord, putKey, byte, withByte, putByte, putLink, absent, forbids, forbidden, violation, firstWord}
+use Rattle.acceptance.specs.Accept.{sizeFits, cellFits, cellsFit, stateFits, controlFits, judgeStore, judgeMachine, judgeRun}
+use Rattle.registers.specs.Reg.{iter, until}
+use Rattle.integer.specs.Bitwise.{each, logicalAnd, logicalOr, logicalXor, cleared}
+use Rattle.integer.specs.Skip.{isHigh, isLow, isEqual, isNotEqual, bitsOne, bitsZero}
+use Rattle.integer.specs.Sums.{sum, difference, sumWithCarry, differenceWithCarry, sum24}
+use Rattle.multiply.specs.Wm.{wmStep, wmLast, wm}
+use Rattle.divide.specs.Wd.{wdStep, wdLoop, abs24, wdSign, wdCorrection, wdEnd, wd}
+use Rattle.shift.specs.Shift.{places, leftStep, arithmetic, logical}
+use Rattle.normalize.specs.Norm.{normalize, normalized}
+use Rattle.rounding.specs.Convert.{ci}
+use Rattle.rounding.specs.Round.{afLeft, leftShifts, normalizeOnce, normalizeRound}
+use Rattle.rounding.specs.Store.{precise, roundStore}
+use Rattle.floating.specs.Add.{faSum, faSmall, faAlign, faWith, addFloating, fa, fs}
+use Rattle.floating.specs.Convert.{cfEnd, cfWith, cf}
+use Rattle.floating.specs.Divide.{fdStart, fdAdd, fdLoop, divideFloating, fd}
+use Rattle.floating.specs.Multiply.{fmStep, fmEnd, fmLoop, multiplyFloating, fm}
+use Rattle.floating.specs.Operands.{fetchFloating}
+use Rattle.definition.specs.Codes.{codes, lookup, executing, operating}
+use Rattle.definition.specs.Machine.{resetSystem}
+use Rattle.definition.specs.Meaning.{meaning}
+use Rattle.definition.specs.MicroOps.{skipped, microStep, microSteps, monitorStep, monitorSteps, perform}
+use Rattle.definition.specs.Operands.{extended}
+use Rattle.running.specs.Calls.{call}
+use Rattle.running.specs.Cycle.{bitOf, requested, firstRequest, looksAtLines, lineOf, bitAlone, lineCleared, entryRecord, enter, fetched, displacement, relative, indexed, address, indirectAbsent, effectiveAddress, operate, fetchRecord, decode, fetch, concluded, cycle}
+use Rattle.running.specs.Keys.{resetKey, startRecord, startKey, pressingReset, pressingStart}
+use Rattle.running.specs.Run.{running, runMachine}
+use Rattle.running.specs.Runs.{run}
+
+unfoldable pub opened : ℕ
+unfolding inTask withIC withIR withIM withPending withPR withEX withEnabled raised flagsCleared overflowed carrySet takenApart resetRecord word pair key putWord putKey byte withByte putByte putLink absent forbids forbidden violation firstWord sizeFits cellFits cellsFit stateFits controlFits judgeStore judgeMachine judgeRun iter until each logicalAnd logicalOr logicalXor cleared isHigh isLow isEqual isNotEqual bitsOne bitsZero sum difference sumWithCarry differenceWithCarry sum24 wmStep wmLast wm wdStep wdLoop abs24 wdSign wdCorrection wdEnd wd places leftStep arithmetic logical normalize normalized ci afLeft leftShifts normalizeOnce normalizeRound precise roundStore faSum faSmall faAlign faWith addFloating fa fs cfEnd cfWith cf fdStart fdAdd fdLoop divideFloating fd fmStep fmEnd fmLoop multiplyFloating fm fetchFloating codes lookup executing operating resetSystem meaning skipped microStep microSteps monitorStep monitorSteps perform extended call bitOf requested firstRequest looksAtLines lineOf bitAlone lineCleared entryRecord enter fetched displacement relative indexed address indirectAbsent effectiveAddress operate fetchRecord decode fetch concluded cycle resetKey startRecord startKey pressingReset pressingStart running runMachine run
+opened = 0

@@ -1,0 +1,36 @@
+-- The run of the RC 4000: lines, budget, machine (document 01, "A run").
+-- Assumes nothing.
+use Prim.Native.Nat.{ℕ}
+use mathlib.Core.Bool.{Bool}
+use mathlib.Core.List.{List}
+use Rattle.machine.specs.declared.Verdict.{Verdict}
+use Rattle.machine.specs.Fields.{raised}
+use Rattle.acceptance.specs.Accept.{judgeMachine}
+use Rattle.definition.specs.Machine.{Machine, machine}
+use Rattle.running.specs.Runs.{Ran, run}
+use Rattle.running.specs.Calls.{call, calls}
+use Rattle.running.specs.Cycle.{cycle}
+
+-- the reset state, in which no cycle is made
+abbrev pub inReset : Machine → Bool
+inReset m = m .control .reset
+
+-- the refusals 1 to 3
+abbrev pub judgeOf : Machine → Verdict
+judgeOf m = judgeMachine (m .cells) (m .control)
+
+-- the lines join IR
+abbrev pub joined : ℕ → Machine → Machine
+joined l m = machine (m .cells) (raised (m .control) l)
+
+-- the cycles of a budget
+unfoldable pub running : ℕ → Machine → Ran Machine
+running b m = run inReset cycle b m
+
+-- a run with the raised lines l and the budget b
+unfoldable pub runMachine : ℕ → ℕ → Machine → Ran Machine
+runMachine l b m = call inReset cycle judgeOf joined l b m
+
+-- runs with the budgets b ∷ bs, one after the other
+unfoldable pub runList : ℕ → ℕ → List ℕ → Machine → Ran Machine
+runList l b bs m = calls inReset cycle judgeOf joined l b bs m
