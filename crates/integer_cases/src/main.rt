@@ -3,12 +3,8 @@
 mod operands;
 mod operation;
 
-ghost use Prim.Native.Nat.{_^_, _<_};
-
 // Every edge operand in the place of Wpre and W, with every edge operand or shift count in that of SB.
-fn edges(op: u32) -> u64
-    ensures { λ r. ⌜ r < 2 ^ 32 ⌝ }
-{
+fn edges(op: u32) -> u64 {
     let mut h = 0u64;
     for i in 0u32..2197 {
         h = operation::case(op, operands::edge_case(op, i), h);
@@ -16,10 +12,7 @@ fn edges(op: u32) -> u64
     h
 }
 
-fn random(op: u32, start: u64) -> u64
-    requires { ⌜ start < 2 ^ 32 ⌝ }
-    ensures { λ r. ⌜ r < 2 ^ 32 ⌝ }
-{
+fn random(op: u32, start: u64) -> u64 {
     let mut h = start;
     let mut s = op as u64;
     for i in 0u32..10000 {

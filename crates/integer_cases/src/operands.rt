@@ -73,31 +73,25 @@ pub fn edge_case(op: u32, i: u32) -> Operands
 }
 
 // A linear congruential generator of 32 bits.
-pub fn next(s: u64) -> u64
-    requires { ⌜ s < 2 ^ 32 ⌝ }
-    ensures { λ r. ⌜ r < 2 ^ 32 ⌝ }
-{
-    (s * 1664525 + 1013904223) % 4294967296
+pub fn next(s: u64) -> u64 {
+    (s % 4294967296 * 1664525 + 1013904223) % 4294967296
 }
 
 // k leading zeros, then the first bits of a random word.
 fn small(s: u64, k: u32) -> u32
-    requires { ⌜ (s < 2 ^ 32) × (k < 24) ⌝ }
     ensures { λ r. ⌜ r < 2 ^ 24 ⌝ }
 {
-    ((s / 256) as u32 >> k) % 16777216
+    ((s / 256 % 16777216) as u32 >> (k % 24)) % 16777216
 }
 
 fn count(s: u64) -> u32
-    requires { ⌜ s < 2 ^ 32 ⌝ }
     ensures { λ r. ⌜ r < 2 ^ 24 ⌝ }
 {
-    ((s / 256) as u32 % 160 + 16777136) % 16777216
+    ((s / 256 % 160) as u32 + 16777136) % 16777216
 }
 
 // Six kinds in rotation: random words; small and large Wpre, so that quotients fit; small numbers of each sign.
 fn random_words(i: u32, x: u64, y: u64, z: u64) -> Operands
-    requires { ⌜ (x < 2 ^ 32) × (y < 2 ^ 32) × (z < 2 ^ 32) ⌝ }
     ensures { λ r. ⌜ (r .pre < 2 ^ 24) × (r .w < 2 ^ 24) × (r .sb < 2 ^ 24) ⌝ }
 {
     let k = i / 6 % 24;
@@ -136,7 +130,6 @@ fn random_words(i: u32, x: u64, y: u64, z: u64) -> Operands
 }
 
 pub fn random_case(op: u32, i: u32, x: u64, y: u64, z: u64) -> Operands
-    requires { ⌜ (x < 2 ^ 32) × (y < 2 ^ 32) × (z < 2 ^ 32) ⌝ }
     ensures { λ r. ⌜ (r .pre < 2 ^ 24) × (r .w < 2 ^ 24) × (r .sb < 2 ^ 24) ⌝ }
 {
     let r = random_words(i, x, y, z);

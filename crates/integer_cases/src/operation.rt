@@ -1,53 +1,36 @@
 // One case: the operation's result goes into the checksum, field by field.
 use crate::operands::Operands;
-ghost use Prim.Native.Nat.{_^_, _<_};
+ghost use Prim.Native.Nat.{_+_, _^_, _<_, _≤_};
+ghost use lib.ListN.{length};
 
-fn mix(h: u64, v: u32) -> u64
-    requires { ⌜ h < 2 ^ 32 ⌝ }
-    ensures { λ r. ⌜ r < 2 ^ 32 ⌝ }
-{
-    (h * 31 + v as u64) % 4294967296
+fn mix(h: u64, v: u32) -> u64 {
+    (h % 4294967296 * 31 + v as u64) % 4294967296
 }
 
-fn mix_double(h: u64, v: u64) -> u64
-    requires { ⌜ (h < 2 ^ 32) × (v < 2 ^ 48) ⌝ }
-    ensures { λ r. ⌜ r < 2 ^ 32 ⌝ }
-{
-    mix(mix(h, (v / 16777216) as u32), (v % 16777216) as u32)
+fn mix_double(h: u64, v: u64) -> u64 {
+    mix(
+        mix(h, (v / 16777216 % 16777216) as u32),
+        (v % 16777216) as u32,
+    )
 }
 
-fn mix_bool(h: u64, b: bool) -> u64
-    requires { ⌜ h < 2 ^ 32 ⌝ }
-    ensures { λ r. ⌜ r < 2 ^ 32 ⌝ }
-{
+fn mix_bool(h: u64, b: bool) -> u64 {
     if b { mix(h, 1) } else { mix(h, 0) }
 }
 
-fn mix_sum(h: u64, s: integer::Sum) -> u64
-    requires { ⌜ h < 2 ^ 32 ⌝ }
-    ensures { λ r. ⌜ r < 2 ^ 32 ⌝ }
-{
+fn mix_sum(h: u64, s: integer::Sum) -> u64 {
     mix(mix(mix(h, s.word), s.over), s.carry)
 }
 
-fn mix_shifted(h: u64, s: shift::Shifted) -> u64
-    requires { ⌜ (h < 2 ^ 32) × (s .word < 2 ^ 48) ⌝ }
-    ensures { λ r. ⌜ r < 2 ^ 32 ⌝ }
-{
+fn mix_shifted(h: u64, s: shift::Shifted) -> u64 {
     mix(mix_double(h, s.word), s.over)
 }
 
-fn mix_normal(h: u64, n: normalize::Normal) -> u64
-    requires { ⌜ (h < 2 ^ 32) × (n .word < 2 ^ 48) ⌝ }
-    ensures { λ r. ⌜ r < 2 ^ 32 ⌝ }
-{
+fn mix_normal(h: u64, n: normalize::Normal) -> u64 {
     mix(mix_double(h, n.word), n.shifts)
 }
 
-fn mix_divided(h: u64, d: divide::Divided) -> u64
-    requires { ⌜ h < 2 ^ 32 ⌝ }
-    ensures { λ r. ⌜ r < 2 ^ 32 ⌝ }
-{
+fn mix_divided(h: u64, d: divide::Divided) -> u64 {
     mix(mix(mix(h, d.pre), d.word), d.over)
 }
 
@@ -60,8 +43,7 @@ fn pair(pre: u32, w: u32) -> u64
 }
 
 fn double_sum(o: Operands, h: u64) -> u64
-    requires { ⌜ (o .pre < 2 ^ 24) × (o .w < 2 ^ 24) × (o .sb < 2 ^ 24) × (h < 2 ^ 32) ⌝ }
-    ensures { λ r. ⌜ r < 2 ^ 32 ⌝ }
+    requires { ⌜ (o .pre < 2 ^ 24) × (o .w < 2 ^ 24) × (o .sb < 2 ^ 24) ⌝ }
 {
     let s = integer::add(o.w, o.pre);
     let t = integer::add_with_carry(o.pre, o.sb, s.carry);
@@ -69,8 +51,7 @@ fn double_sum(o: Operands, h: u64) -> u64
 }
 
 fn double_difference(o: Operands, h: u64) -> u64
-    requires { ⌜ (o .pre < 2 ^ 24) × (o .w < 2 ^ 24) × (o .sb < 2 ^ 24) × (h < 2 ^ 32) ⌝ }
-    ensures { λ r. ⌜ r < 2 ^ 32 ⌝ }
+    requires { ⌜ (o .pre < 2 ^ 24) × (o .w < 2 ^ 24) × (o .sb < 2 ^ 24) ⌝ }
 {
     let s = integer::subtract(o.w, o.pre);
     let t = integer::subtract_with_carry(o.pre, o.sb, s.carry);
@@ -78,8 +59,7 @@ fn double_difference(o: Operands, h: u64) -> u64
 }
 
 fn sums(op: u32, o: Operands, h: u64) -> u64
-    requires { ⌜ (o .pre < 2 ^ 24) × (o .w < 2 ^ 24) × (o .sb < 2 ^ 24) × (h < 2 ^ 32) ⌝ }
-    ensures { λ r. ⌜ r < 2 ^ 32 ⌝ }
+    requires { ⌜ (o .pre < 2 ^ 24) × (o .w < 2 ^ 24) × (o .sb < 2 ^ 24) ⌝ }
 {
     match op {
         0 => mix_sum(h, integer::add(o.w, o.sb)),
@@ -91,8 +71,7 @@ fn sums(op: u32, o: Operands, h: u64) -> u64
 }
 
 fn logic(op: u32, o: Operands, h: u64) -> u64
-    requires { ⌜ (o .pre < 2 ^ 24) × (o .w < 2 ^ 24) × (o .sb < 2 ^ 24) × (h < 2 ^ 32) ⌝ }
-    ensures { λ r. ⌜ r < 2 ^ 32 ⌝ }
+    requires { ⌜ (o .pre < 2 ^ 24) × (o .w < 2 ^ 24) × (o .sb < 2 ^ 24) ⌝ }
 {
     match op {
         5 => mix(h, integer::and24(o.w, o.sb)),
@@ -103,8 +82,7 @@ fn logic(op: u32, o: Operands, h: u64) -> u64
 }
 
 fn skips(op: u32, o: Operands, h: u64) -> u64
-    requires { ⌜ (o .pre < 2 ^ 24) × (o .w < 2 ^ 24) × (o .sb < 2 ^ 24) × (h < 2 ^ 32) ⌝ }
-    ensures { λ r. ⌜ r < 2 ^ 32 ⌝ }
+    requires { ⌜ (o .pre < 2 ^ 24) × (o .w < 2 ^ 24) × (o .sb < 2 ^ 24) ⌝ }
 {
     match op {
         9 => mix_bool(h, integer::is_high(o.w, o.sb)),
@@ -117,8 +95,7 @@ fn skips(op: u32, o: Operands, h: u64) -> u64
 }
 
 fn loops(op: u32, o: Operands, h: u64) -> u64
-    requires { ⌜ (o .pre < 2 ^ 24) × (o .w < 2 ^ 24) × (o .sb < 2 ^ 24) × (h < 2 ^ 32) ⌝ }
-    ensures { λ r. ⌜ r < 2 ^ 32 ⌝ }
+    requires { ⌜ (o .pre < 2 ^ 24) × (o .w < 2 ^ 24) × (o .sb < 2 ^ 24) ⌝ }
 {
     match op {
         15 => mix_double(h, multiply::multiply(o.w, o.sb)),
@@ -133,8 +110,7 @@ fn loops(op: u32, o: Operands, h: u64) -> u64
 }
 
 pub fn case(op: u32, o: Operands, h: u64) -> u64
-    requires { ⌜ (o .pre < 2 ^ 24) × (o .w < 2 ^ 24) × (o .sb < 2 ^ 24) × (h < 2 ^ 32) ⌝ }
-    ensures { λ r. ⌜ r < 2 ^ 32 ⌝ }
+    requires { ⌜ (o .pre < 2 ^ 24) × (o .w < 2 ^ 24) × (o .sb < 2 ^ 24) ⌝ }
 {
     if op < 5 {
         return sums(op, o, h);
@@ -148,31 +124,13 @@ pub fn case(op: u32, o: Operands, h: u64) -> u64
     loops(op, o, h)
 }
 
+fn write_letters(names: &[u8], i: usize)
+    requires { ⌜ i + 2 ≤ length (now names) ⌝ }
+{
+    io::write_all(1, &names[i..i + 2]);
+}
+
 pub fn write_name(op: u32) {
-    match op {
-        0 => io::write_all(1, b"WA"),
-        1 => io::write_all(1, b"WS"),
-        2 => io::write_all(1, b"AC"),
-        3 => io::write_all(1, b"AA"),
-        4 => io::write_all(1, b"SS"),
-        5 => io::write_all(1, b"LA"),
-        6 => io::write_all(1, b"LO"),
-        7 => io::write_all(1, b"LX"),
-        8 => io::write_all(1, b"IC"),
-        9 => io::write_all(1, b"SH"),
-        10 => io::write_all(1, b"SL"),
-        11 => io::write_all(1, b"SE"),
-        12 => io::write_all(1, b"SN"),
-        13 => io::write_all(1, b"SO"),
-        14 => io::write_all(1, b"SZ"),
-        15 => io::write_all(1, b"WM"),
-        16 => io::write_all(1, b"WD"),
-        17 => io::write_all(1, b"AS"),
-        18 => io::write_all(1, b"AD"),
-        19 => io::write_all(1, b"LS"),
-        20 => io::write_all(1, b"LD"),
-        21 => io::write_all(1, b"NS"),
-        _ => io::write_all(1, b"ND"),
-    }
-    ;
+    let i = (op % 23) as usize * 2;
+    write_letters(b"WAWSACAASSLALOLXICSHSLSESNSOSZWMWDASADLSLDNSND", i);
 }

@@ -1,10 +1,10 @@
-use Prim.Native.Nat.{_-_, _^_, _<_, _≤_}
+use Prim.Native.Nat.{_-_, _≤_}
 use borrow.Author.Needs.{needs}
 use Rattle.integer_cases.proofs.edges.Statement.{statement}
 use Rattle.integer_cases.proofs.edges.Tie as tie
 
 abbrev Inv-loop : tie.InvT-loop
-Inv-loop op h₀ i₀ h i = (i ≤ 2197) × (h < 2 ^ 32)
+Inv-loop op h₀ i₀ h i = i ≤ 2197
 
 abbrev μ-loop : tie.MeasureT-loop
 μ-loop op h₀ i₀ h i = 2197 - i

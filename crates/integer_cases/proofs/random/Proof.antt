@@ -1,10 +1,10 @@
-use Prim.Native.Nat.{_-_, _^_, _<_, _≤_}
+use Prim.Native.Nat.{_-_, _≤_}
 use borrow.Author.Needs.{needs}
 use Rattle.integer_cases.proofs.random.Statement.{statement}
 use Rattle.integer_cases.proofs.random.Tie as tie
 
 abbrev Inv-loop : tie.InvT-loop
-Inv-loop op start h₀ s₀ i₀ h s i = (i ≤ 10000) × (h < 2 ^ 32) × (s < 2 ^ 32)
+Inv-loop op start h₀ s₀ i₀ h s i = i ≤ 10000
 
 abbrev μ-loop : tie.MeasureT-loop
 μ-loop op start h₀ s₀ i₀ h s i = 10000 - i
