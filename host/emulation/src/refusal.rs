@@ -1,0 +1,57 @@
+//! The refusals of document 01 and their numbers.
+
+use std::fmt;
+
+/// Why a call was refused. Store and control record stay as given.
+#[derive(Clone, Copy, Debug, PartialEq, Eq, Hash)]
+pub enum Refusal {
+    /// 1: fewer than 8 or more than 8,388,608 cells.
+    Cells = 1,
+    /// 2: a cell of 134,217,728 or more.
+    Cell = 2,
+    /// 3: a control field outside its width or the rules.
+    Control = 3,
+    /// 4: lines with bit 0, 1 or 2 set, or over 24 bits.
+    Lines = 4,
+    /// 5: a budget over 65,535.
+    Budget = 5,
+    /// 6: the tape stops inside a header or payload, or before an end record.
+    TapeStops = 6,
+    /// 7: a record kind not 1 to 4.
+    Kind = 7,
+    /// 8: a length wrong for the kind.
+    Length = 8,
+    /// 9: a block beyond the store.
+    Block = 9,
+    /// 10: a cell of a block of 134,217,728 or more.
+    TapeCell = 10,
+    /// 11: records in the wrong sequence, or bytes after the end.
+    Sequence = 11,
+    /// 12: a tape of over 65,536 bytes.
+    TapeLength = 12,
+}
+
+impl Refusal {
+    /// Document 01's number.
+    pub const fn number(self) -> u32 {
+        self as u32
+    }
+
+    /// The refusal with document 01's `number`.
+    pub fn from_number(number: u32) -> Option<Self> {
+        use Refusal::*;
+        let all = [
+            Cells, Cell, Control, Lines, Budget, TapeStops, Kind, Length, Block, TapeCell,
+            Sequence, TapeLength,
+        ];
+        all.into_iter().find(|refusal| refusal.number() == number)
+    }
+}
+
+impl fmt::Display for Refusal {
+    fn fmt(&self, formatter: &mut fmt::Formatter) -> fmt::Result {
+        write!(formatter, "refused {}", self.number())
+    }
+}
+
+impl std::error::Error for Refusal {}

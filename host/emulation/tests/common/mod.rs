@@ -1,0 +1,49 @@
+//! Machines for the tests.
+#![allow(dead_code)]
+
+use emulation::{run, Control, Report};
+
+/// A store and a control record that a test sets up and looks at.
+pub struct Machine {
+    pub store: Vec<u32>,
+    pub control: Control,
+}
+
+/// The word of an instruction: F, W, M, X, D.
+pub fn instruction(f: u32, w: u32, m: u32, x: u32, d: i32) -> u32 {
+    (f << 18) | (w << 16) | (m << 14) | (x << 12) | (d as u32 & 0xfff)
+}
+
+/// Bit `number` of a word, from the left.
+pub fn bit(number: u32) -> u32 {
+    1 << (23 - number)
+}
+
+impl Machine {
+    /// 32 cells of zero, IC 16, monitor mode, the interruption program at 62.
+    pub fn new() -> Self {
+        let mut control = Control::fresh();
+        control.ic = 16;
+        let mut store = vec![0; 32];
+        store[6] = 62;
+        Machine { store, control }
+    }
+
+    /// The machine with these working registers.
+    pub fn with_registers(registers: [u32; 4]) -> Self {
+        let mut machine = Self::new();
+        machine.store[..4].copy_from_slice(&registers);
+        machine
+    }
+
+    /// Executes one instruction, put where IC points, with no key.
+    pub fn execute(&mut self, instruction: u32) -> Report {
+        let place = (self.control.ic / 2) as usize;
+        self.store[place] = instruction;
+        self.cycles(1)
+    }
+
+    pub fn cycles(&mut self, budget: u32) -> Report {
+        run(&mut self.store, &mut self.control, 0, budget).unwrap()
+    }
+}

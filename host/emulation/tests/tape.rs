@@ -1,0 +1,123 @@
+//! Load tapes, their refusals and the remark.
+
+use emulation::{load, remark, run, Control, Outcome, Refusal};
+
+fn record(kind: u16, payload: &[u8]) -> Vec<u8> {
+    let mut bytes = (payload.len() as u32).to_le_bytes().to_vec();
+    bytes.extend(kind.to_le_bytes());
+    bytes.extend(payload);
+    bytes
+}
+
+fn block(first: u32, cells: &[u32]) -> Vec<u8> {
+    let mut payload = first.to_le_bytes().to_vec();
+    for cell in cells {
+        payload.extend(cell.to_le_bytes());
+    }
+    record(1, &payload)
+}
+
+fn control(pr: u8, ex: u8, flags: u8, last: u8) -> Vec<u8> {
+    let mut payload = [0; 20];
+    payload[16..].copy_from_slice(&[pr, ex, flags, last]);
+    record(2, &payload)
+}
+
+fn good_control() -> Vec<u8> {
+    control(128, 0, 5, 0)
+}
+
+fn end() -> Vec<u8> {
+    record(3, &[])
+}
+
+/// The loader's refusal, which the remark reader gives too.
+fn refusal(parts: &[Vec<u8>]) -> Refusal {
+    let tape = parts.concat();
+    let mut store = vec![3; 16];
+    let given = Control {
+        ic: 6,
+        ..Control::fresh()
+    };
+    let mut control = given;
+    let refusal = load(&mut store, &mut control, &tape).unwrap_err();
+    assert_eq!((store, control), (vec![3; 16], given));
+    assert_eq!(remark(&tape, 16), Err(refusal));
+    refusal
+}
+
+#[test]
+fn the_tape_of_the_paper() {
+    let tape = [good_control(), end()].concat();
+    let mut store = vec![0; 4096];
+    let mut control = Control::fresh();
+    load(&mut store, &mut control, &tape).unwrap();
+    assert_eq!(control, Control::power_on());
+    let report = run(&mut store, &mut control, 0, 100).unwrap();
+    assert_eq!(report.outcome, Outcome::Reset);
+    assert_eq!((report.executed, report.entries, control.ic), (0, 0, 0));
+    assert_eq!(remark(&tape, 4096), Ok(None));
+}
+
+#[test]
+fn later_blocks_overwrite_and_other_cells_stay() {
+    let tape = [
+        block(2, &[20, 21, 22]),
+        record(4, b""),
+        record(4, b"second"),
+        block(3, &[31]),
+        good_control(),
+        end(),
+    ]
+    .concat();
+    let mut store = vec![9; 8];
+    load(&mut store, &mut Control::fresh(), &tape).unwrap();
+    assert_eq!(store, [9, 9, 20, 31, 22, 9, 9, 9]);
+    let text = remark(&tape, 8).unwrap().unwrap();
+    assert!(text.is_empty());
+}
+
+#[test]
+fn the_first_remark() {
+    let tape = [record(4, b"loom 7"), record(4, b"x"), good_control(), end()].concat();
+    assert_eq!(remark(&tape, 8), Ok(Some(&tape[6..12])));
+    assert_eq!(remark(&tape, 7), Err(Refusal::Cells));
+}
+
+#[test]
+fn tape_refusals() {
+    assert_eq!(refusal(&[]), Refusal::TapeStops);
+    assert_eq!(refusal(&[good_control()]), Refusal::TapeStops);
+    assert_eq!(refusal(&[vec![20, 0, 0, 0, 2, 0, 0]]), Refusal::TapeStops);
+    assert_eq!(refusal(&[record(0, &[])]), Refusal::Kind);
+    assert_eq!(refusal(&[good_control(), record(5, &[])]), Refusal::Kind);
+    assert_eq!(refusal(&[end()]), Refusal::Sequence);
+    assert_eq!(
+        refusal(&[good_control(), record(4, &[])]),
+        Refusal::Sequence
+    );
+    assert_eq!(refusal(&[record(1, &[0; 4])]), Refusal::Length);
+    assert_eq!(refusal(&[record(1, &[0; 9])]), Refusal::Length);
+    assert_eq!(refusal(&[record(2, &[0; 19])]), Refusal::Length);
+    assert_eq!(refusal(&[record(4, &[0; 256])]), Refusal::Length);
+    assert_eq!(refusal(&[good_control(), record(3, &[0])]), Refusal::Length);
+    assert_eq!(refusal(&[block(15, &[0, u32::MAX])]), Refusal::Block);
+    assert_eq!(refusal(&[block(u32::MAX, &[0])]), Refusal::Block);
+    assert_eq!(refusal(&[block(14, &[0, u32::MAX])]), Refusal::TapeCell);
+    for (pr, ex, flags, last) in [
+        (127, 0, 5, 0),
+        (128, 8, 5, 0),
+        (128, 0, 4, 0),
+        (128, 0, 7, 0),
+        (128, 0, 8, 0),
+        (128, 0, 5, 1),
+    ] {
+        assert_eq!(refusal(&[control(pr, ex, flags, last)]), Refusal::Control);
+    }
+    assert_eq!(
+        refusal(&[good_control(), end(), vec![0]]),
+        Refusal::Sequence
+    );
+    assert_eq!(refusal(&[vec![0; 65_537]]), Refusal::TapeLength);
+    assert_eq!(refusal(&[vec![0; 65_536]]), Refusal::Kind);
+}

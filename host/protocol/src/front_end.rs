@@ -1,0 +1,172 @@
+//! Answers requests by a machine, with one store kept from request to request.
+
+use crate::answer::Answer;
+use crate::machine::Machine;
+use crate::request::{Listed, Request};
+use emulation::{Control, Refusal, MAXIMUM_CELLS};
+use std::io::{BufRead, Write};
+use std::ops::Range;
+
+/// Cells looked at together in the search for those that are not zero.
+const CHUNK: usize = 1024;
+
+/// A machine and its store. Between requests every cell of the store is zero.
+pub struct FrontEnd<M> {
+    machine: M,
+    store: Vec<u32>,
+}
+
+impl<M: Machine> FrontEnd<M> {
+    /// A front end for `machine`.
+    pub fn new(machine: M) -> Self {
+        FrontEnd {
+            machine,
+            store: Vec::new(),
+        }
+    }
+
+    /// The answer to a line, without its line end.
+    pub fn answer_line(&mut self, line: &str) -> Answer {
+        match Request::parse(line) {
+            Ok(request) => self.answer(&request),
+            Err(_) => Answer::Bad,
+        }
+    }
+
+    /// The answer to a request.
+    pub fn answer(&mut self, request: &Request) -> Answer {
+        match request {
+            Request::Run {
+                store,
+                control,
+                lines,
+                budget,
+            } => self.run(store, *control, *lines, *budget),
+            Request::PressReset { store, control } => {
+                self.change(store, *control, |machine, cells, control| {
+                    machine.press_reset(cells, control)
+                })
+            }
+            Request::PressStart { store, control } => {
+                self.change(store, *control, |machine, cells, control| {
+                    machine.press_start(cells, control)
+                })
+            }
+            Request::Load { store, tape } => {
+                self.change(store, Control::fresh(), |machine, cells, control| {
+                    machine.load(cells, control, tape)
+                })
+            }
+            Request::Remark { cells, tape } => match self.machine.remark(tape, *cells) {
+                Ok(text) => Answer::Remark(text.map(|text| part_of(tape, text))),
+                Err(refusal) => Answer::Refused(refusal),
+            },
+        }
+    }
+
+    fn run(&mut self, listed: &Listed, given: Control, lines: u32, budget: u32) -> Answer {
+        let size = self.lay_out(listed);
+        let mut control = given;
+        let result = self
+            .machine
+            .run(&mut self.store[..size], &mut control, lines, budget);
+        let changed = self.collect_changes(listed, size);
+        match result {
+            Ok(report) => Answer::Run {
+                report,
+                control,
+                changed,
+            },
+            Err(refusal) => refused(refusal, given == control && changed.is_empty()),
+        }
+    }
+
+    /// A call that hands back store and control record only.
+    fn change(
+        &mut self,
+        listed: &Listed,
+        given: Control,
+        call: impl FnOnce(&M, &mut [u32], &mut Control) -> Result<(), Refusal>,
+    ) -> Answer {
+        let size = self.lay_out(listed);
+        let mut control = given;
+        let result = call(&self.machine, &mut self.store[..size], &mut control);
+        let changed = self.collect_changes(listed, size);
+        match result {
+            Ok(()) => Answer::Done { control, changed },
+            Err(refusal) => refused(refusal, given == control && changed.is_empty()),
+        }
+    }
+
+    /// Puts the listed cells into the store and gives the number of cells to
+    /// hand to the machine. A store with more cells than any machine takes is
+    /// stood for by one with one cell too many.
+    fn lay_out(&mut self, listed: &Listed) -> usize {
+        let size = listed.size.min(MAXIMUM_CELLS + 1);
+        if self.store.len() < size {
+            self.store.resize(size, 0);
+        }
+        for &(index, value) in &listed.cells {
+            if index < size {
+                self.store[index] = value;
+            }
+        }
+        size
+    }
+
+    /// The cells that differ from those listed; every cell is zero afterwards.
+    fn collect_changes(&mut self, listed: &Listed, size: usize) -> Vec<(usize, u32)> {
+        let store = &mut self.store[..size];
+        let mut changed = Vec::new();
+        for &(index, value) in &listed.cells {
+            if index < size {
+                if store[index] != value {
+                    changed.push((index, store[index]));
+                }
+                store[index] = 0;
+            }
+        }
+        for (number, chunk) in store.chunks_mut(CHUNK).enumerate() {
+            if chunk.iter().fold(0, |all, cell| all | cell) != 0 {
+                for (place, cell) in chunk.iter_mut().enumerate() {
+                    if *cell != 0 {
+                        changed.push((number * CHUNK + place, *cell));
+                        *cell = 0;
+                    }
+                }
+            }
+        }
+        changed.sort_unstable_by_key(|&(index, _)| index);
+        changed
+    }
+}
+
+fn refused(refusal: Refusal, as_given: bool) -> Answer {
+    if as_given {
+        Answer::Refused(refusal)
+    } else {
+        Answer::RefusedAndChanged(refusal)
+    }
+}
+
+/// Where `text`, a part of `tape`, lies in it.
+fn part_of(tape: &[u8], text: &[u8]) -> Range<usize> {
+    let start = text.as_ptr() as usize - tape.as_ptr() as usize;
+    start..start + text.len()
+}
+
+/// Answers every line of `input` on a line of `output`.
+pub fn serve<M: Machine>(
+    machine: M,
+    mut input: impl BufRead,
+    mut output: impl Write,
+) -> std::io::Result<()> {
+    let mut front_end = FrontEnd::new(machine);
+    let mut line = Vec::new();
+    while input.read_until(b'\n', &mut line)? > 0 {
+        let text = std::str::from_utf8(&line).map_or("", |text| text.trim_end());
+        writeln!(output, "{}", front_end.answer_line(text))?;
+        line.clear();
+    }
+    output.flush()
+}

@@ -1,0 +1,31 @@
+//! The case protocol: one request a line, one answer a line.
+//!
+//! Numbers are decimal, fields are separated by one space. `cells` is a list
+//! `i=v,i=v,..` of the cells that are not zero, `-` for none; `ctl` is nine
+//! fields, `ic ir im pending pr ex monitor enabled reset`, the last three 0 or
+//! 1; `tape` is lower-case hex, `-` for no byte.
+//!
+//! | request | answer |
+//! |---|---|
+//! | `run N cells ctl lines budget` | `OUTCOME executed entries ctl changed` |
+//! | `keyreset N cells ctl`, `keystart N cells ctl` | `ok ctl changed` |
+//! | `load N cells tape` | `ok ctl changed` |
+//! | `remark N tape` | `none` or `at S E` |
+//!
+//! OUTCOME is `spent`, `reset`, `exception` or `line:K`. A refusal answers
+//! `refused K`, a request that cannot be read `bad`. `changed` lists the cells
+//! that differ from the request's, in rising order.
+
+#![forbid(unsafe_code)]
+#![warn(missing_docs)]
+
+mod answer;
+mod front_end;
+mod machine;
+mod request;
+
+pub use answer::Answer;
+pub use emulation::{Control, Kind, Outcome, Refusal, Report};
+pub use front_end::{serve, FrontEnd};
+pub use machine::{Emulation, Machine};
+pub use request::{Bad, Listed, Request};

@@ -1,0 +1,59 @@
+//! What answers a request: the five calls of a machine.
+
+use emulation::{Control, Refusal, Report};
+
+/// The calls of a machine. On a refusal, store and control record come back
+/// as given.
+pub trait Machine {
+    /// Runs at most `budget` cycles.
+    fn run(
+        &self,
+        store: &mut [u32],
+        control: &mut Control,
+        lines: u32,
+        budget: u32,
+    ) -> Result<Report, Refusal>;
+
+    /// The reset key.
+    fn press_reset(&self, store: &mut [u32], control: &mut Control) -> Result<(), Refusal>;
+
+    /// The start key.
+    fn press_start(&self, store: &mut [u32], control: &mut Control) -> Result<(), Refusal>;
+
+    /// Loads a tape.
+    fn load(&self, store: &mut [u32], control: &mut Control, tape: &[u8]) -> Result<(), Refusal>;
+
+    /// The first remark of a tape that loads into a store of `cells` cells.
+    fn remark<'t>(&self, tape: &'t [u8], cells: usize) -> Result<Option<&'t [u8]>, Refusal>;
+}
+
+/// The emulation as a machine.
+pub struct Emulation;
+
+impl Machine for Emulation {
+    fn run(
+        &self,
+        store: &mut [u32],
+        control: &mut Control,
+        lines: u32,
+        budget: u32,
+    ) -> Result<Report, Refusal> {
+        emulation::run(store, control, lines, budget)
+    }
+
+    fn press_reset(&self, store: &mut [u32], control: &mut Control) -> Result<(), Refusal> {
+        emulation::press_reset(store, control)
+    }
+
+    fn press_start(&self, store: &mut [u32], control: &mut Control) -> Result<(), Refusal> {
+        emulation::press_start(store, control)
+    }
+
+    fn load(&self, store: &mut [u32], control: &mut Control, tape: &[u8]) -> Result<(), Refusal> {
+        emulation::load(store, control, tape)
+    }
+
+    fn remark<'t>(&self, tape: &'t [u8], cells: usize) -> Result<Option<&'t [u8]>, Refusal> {
+        emulation::remark(tape, cells)
+    }
+}

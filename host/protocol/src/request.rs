@@ -1,0 +1,252 @@
+//! Requests, and how a line is read as one.
+
+use emulation::Control;
+use std::fmt;
+
+/// A request that cannot be read.
+#[derive(Clone, Copy, Debug, PartialEq, Eq)]
+pub struct Bad;
+
+/// A store of `size` cells of which only those listed may be other than zero.
+/// The list rises by index, each index once and below `size`.
+#[derive(Clone, Debug, PartialEq, Eq, Default)]
+pub struct Listed {
+    /// The number of cells.
+    pub size: usize,
+    /// Index and value.
+    pub cells: Vec<(usize, u32)>,
+}
+
+/// One line of requests.
+#[derive(Clone, Debug, PartialEq, Eq)]
+pub enum Request {
+    /// `run N cells ctl lines budget`.
+    Run {
+        /// The store.
+        store: Listed,
+        /// The control record.
+        control: Control,
+        /// Raised lines.
+        lines: u32,
+        /// The most cycles.
+        budget: u32,
+    },
+    /// `keyreset N cells ctl`.
+    PressReset {
+        /// The store.
+        store: Listed,
+        /// The control record.
+        control: Control,
+    },
+    /// `keystart N cells ctl`.
+    PressStart {
+        /// The store.
+        store: Listed,
+        /// The control record.
+        control: Control,
+    },
+    /// `load N cells tape`.
+    Load {
+        /// The store.
+        store: Listed,
+        /// The tape.
+        tape: Vec<u8>,
+    },
+    /// `remark N tape`.
+    Remark {
+        /// The number of cells.
+        cells: usize,
+        /// The tape.
+        tape: Vec<u8>,
+    },
+}
+
+impl Request {
+    /// Reads a line, without its line end.
+    pub fn parse(line: &str) -> Result<Self, Bad> {
+        let fields: Vec<&str> = line.split(' ').collect();
+        match fields[..] {
+            ["run", size, cells, ref control @ .., lines, budget] => Ok(Request::Run {
+                store: listed(size, cells)?,
+                control: control_fields(control)?,
+                lines: number(lines)?,
+                budget: number(budget)?,
+            }),
+            ["keyreset", size, cells, ref control @ ..] => Ok(Request::PressReset {
+                store: listed(size, cells)?,
+                control: control_fields(control)?,
+            }),
+            ["keystart", size, cells, ref control @ ..] => Ok(Request::PressStart {
+                store: listed(size, cells)?,
+                control: control_fields(control)?,
+            }),
+            ["load", size, cells, tape] => Ok(Request::Load {
+                store: listed(size, cells)?,
+                tape: bytes(tape)?,
+            }),
+            ["remark", cells, tape] => Ok(Request::Remark {
+                cells: number(cells)?,
+                tape: bytes(tape)?,
+            }),
+            _ => Err(Bad),
+        }
+    }
+}
+
+/// A decimal number.
+fn number<T: std::str::FromStr>(field: &str) -> Result<T, Bad> {
+    if field.starts_with('+') {
+        return Err(Bad);
+    }
+    field.parse().map_err(|_| Bad)
+}
+
+fn flag(field: &str) -> Result<bool, Bad> {
+    match field {
+        "0" => Ok(false),
+        "1" => Ok(true),
+        _ => Err(Bad),
+    }
+}
+
+fn control_fields(fields: &[&str]) -> Result<Control, Bad> {
+    match *fields {
+        [ic, ir, im, pending, pr, ex, monitor, enabled, reset] => Ok(Control {
+            ic: number(ic)?,
+            ir: number(ir)?,
+            im: number(im)?,
+            pending: number(pending)?,
+            pr: number(pr)?,
+            ex: number(ex)?,
+            monitor: flag(monitor)?,
+            enabled: flag(enabled)?,
+            reset: flag(reset)?,
+        }),
+        _ => Err(Bad),
+    }
+}
+
+fn listed(size: &str, field: &str) -> Result<Listed, Bad> {
+    let size = number(size)?;
+    let mut cells = Vec::new();
+    if field != "-" {
+        for cell in field.split(',') {
+            let (index, value) = cell.split_once('=').ok_or(Bad)?;
+            let index: usize = number(index)?;
+            if index >= size {
+                return Err(Bad);
+            }
+            cells.push((index, number(value)?));
+        }
+    }
+    // An index given twice has its last value.
+    cells.reverse();
+    cells.sort_by_key(|&(index, _)| index);
+    cells.dedup_by_key(|&mut (index, _)| index);
+    Ok(Listed { size, cells })
+}
+
+fn bytes(field: &str) -> Result<Vec<u8>, Bad> {
+    if field == "-" {
+        return Ok(Vec::new());
+    }
+    let digits = field.as_bytes();
+    if digits.is_empty() || digits.len() % 2 != 0 {
+        return Err(Bad);
+    }
+    digits
+        .chunks_exact(2)
+        .map(|pair| Ok(hex_digit(pair[0])? * 16 + hex_digit(pair[1])?))
+        .collect()
+}
+
+fn hex_digit(digit: u8) -> Result<u8, Bad> {
+    match digit {
+        b'0'..=b'9' => Ok(digit - b'0'),
+        b'a'..=b'f' => Ok(digit - b'a' + 10),
+        _ => Err(Bad),
+    }
+}
+
+/// Writes `i=v,i=v,..` or `-`.
+pub(crate) fn write_cells(formatter: &mut fmt::Formatter, cells: &[(usize, u32)]) -> fmt::Result {
+    if cells.is_empty() {
+        return write!(formatter, "-");
+    }
+    for (position, (index, value)) in cells.iter().enumerate() {
+        let separator = if position == 0 { "" } else { "," };
+        write!(formatter, "{separator}{index}={value}")?;
+    }
+    Ok(())
+}
+
+/// Writes the nine fields of a control record.
+pub(crate) fn write_control(formatter: &mut fmt::Formatter, control: &Control) -> fmt::Result {
+    let Control {
+        ic,
+        ir,
+        im,
+        pending,
+        pr,
+        ex,
+        ..
+    } = *control;
+    let [monitor, enabled, reset] =
+        [control.monitor, control.enabled, control.reset].map(u32::from);
+    write!(
+        formatter,
+        "{ic} {ir} {im} {pending} {pr} {ex} {monitor} {enabled} {reset}"
+    )
+}
+
+fn write_tape(formatter: &mut fmt::Formatter, tape: &[u8]) -> fmt::Result {
+    if tape.is_empty() {
+        return write!(formatter, "-");
+    }
+    tape.iter()
+        .try_for_each(|byte| write!(formatter, "{byte:02x}"))
+}
+
+impl fmt::Display for Listed {
+    /// `N cells`; cells of zero are left out.
+    fn fmt(&self, formatter: &mut fmt::Formatter) -> fmt::Result {
+        let mut cells = self.cells.clone();
+        cells.retain(|&(_, value)| value != 0);
+        write!(formatter, "{} ", self.size)?;
+        write_cells(formatter, &cells)
+    }
+}
+
+impl fmt::Display for Request {
+    /// The line that parses as this request.
+    fn fmt(&self, formatter: &mut fmt::Formatter) -> fmt::Result {
+        match self {
+            Request::Run {
+                store,
+                control,
+                lines,
+                budget,
+            } => {
+                write!(formatter, "run {store} ")?;
+                write_control(formatter, control)?;
+                write!(formatter, " {lines} {budget}")
+            }
+            Request::PressReset { store, control } => {
+                write!(formatter, "keyreset {store} ")?;
+                write_control(formatter, control)
+            }
+            Request::PressStart { store, control } => {
+                write!(formatter, "keystart {store} ")?;
+                write_control(formatter, control)
+            }
+            Request::Load { store, tape } => {
+                write!(formatter, "load {store} ")?;
+                write_tape(formatter, tape)
+            }
+            Request::Remark { cells, tape } => {
+                write!(formatter, "remark {cells} ")?;
+                write_tape(formatter, tape)
+            }
+        }
+    }
+}

@@ -1,0 +1,60 @@
+//! The emulation on the stored cases, and the reading of lines.
+
+use protocol::{serve, Emulation, FrontEnd, Request};
+use std::fs;
+use std::path::Path;
+
+fn vectors(name: &str) -> String {
+    let directory = Path::new(env!("CARGO_MANIFEST_DIR")).join("../vectors");
+    fs::read_to_string(directory.join(name)).unwrap()
+}
+
+#[test]
+fn stored_answers() {
+    let (cases, answers) = (vectors("base.cases"), vectors("base.answers"));
+    let mut output = Vec::new();
+    serve(Emulation, cases.as_bytes(), &mut output).unwrap();
+    let output = String::from_utf8(output).unwrap();
+    assert_eq!(output.lines().count(), answers.lines().count());
+    for ((request, answer), given) in cases.lines().zip(answers.lines()).zip(output.lines()) {
+        assert_eq!(given, answer, "{request}");
+    }
+}
+
+#[test]
+fn requests_print_as_they_are_read() {
+    for line in vectors("base.cases").lines() {
+        let request = Request::parse(line).unwrap();
+        assert_eq!(Request::parse(&request.to_string()), Ok(request));
+    }
+}
+
+#[test]
+fn bad_requests() {
+    let mut front_end = FrontEnd::new(Emulation);
+    for line in [
+        "",
+        "walk 8 -",
+        "run 8 8=1 0 0 0 0 128 0 1 0 0 0 0",
+        "run 8 - 0 0 0 0 128 0 2 0 0 0 0",
+        "run 8 - 0 0 0 0 128 0 1 0 0 0",
+        "keyreset 8 - 0 0 0 0 128 0 1 0 0 0",
+        "load 8 - 0g",
+        "load 8 - 0",
+        "remark 8",
+    ] {
+        assert_eq!(front_end.answer_line(line).to_string(), "bad", "{line}");
+    }
+}
+
+#[test]
+fn the_store_is_zero_again_for_the_next_request() {
+    let mut front_end = FrontEnd::new(Emulation);
+    let reset = "keyreset 8388608 8388607=5,3=7 64 0 0 0 128 0 1 0 0";
+    let again = "keyreset 8388608 - 0 0 0 0 128 0 1 0 0";
+    let answers = [reset, again].map(|line| front_end.answer_line(line).to_string());
+    assert_eq!(answers[0], "ok 64 0 0 0 128 0 1 0 1 5=64");
+    assert_eq!(answers[1], "ok 0 0 0 0 128 0 1 0 1 -");
+    let many = "load 99999999999 99999999998=5 -";
+    assert_eq!(front_end.answer_line(many).to_string(), "refused 1");
+}
