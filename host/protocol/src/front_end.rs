@@ -10,6 +10,20 @@ use std::ops::Range;
 /// Cells looked at together in the search for those that are not zero.
 const CHUNK: usize = 1024;
 
+/// The record that a loader is given; it breaks every rule, and a loader
+/// neither tests it nor changes it where it refuses.
+const NEVER_TESTED: Control = Control {
+    ic: u32::MAX,
+    ir: u32::MAX,
+    im: u32::MAX,
+    pending: u32::MAX,
+    pr: 0,
+    ex: u32::MAX,
+    monitor: false,
+    enabled: true,
+    reset: true,
+};
+
 /// A machine and its store. Between requests every cell of the store is zero.
 pub struct FrontEnd<M> {
     machine: M,
@@ -53,7 +67,7 @@ impl<M: Machine> FrontEnd<M> {
                 })
             }
             Request::Load { store, tape } => {
-                self.change(store, Control::fresh(), |machine, cells, control| {
+                self.change(store, NEVER_TESTED, |machine, cells, control| {
                     machine.load(cells, control, tape)
                 })
             }

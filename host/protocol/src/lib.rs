@@ -22,10 +22,14 @@
 mod answer;
 mod front_end;
 mod machine;
+#[cfg(feature = "proved")]
+mod proved;
 mod request;
 
 pub use answer::Answer;
 pub use emulation::{Control, Kind, Outcome, Refusal, Report};
 pub use front_end::{serve, FrontEnd};
 pub use machine::{Emulation, Machine};
+#[cfg(feature = "proved")]
+pub use proved::Proved;
 pub use request::{Bad, Listed, Request};

@@ -1,0 +1,499 @@
+//! What a number of cases was about.
+//!
+//! A run is gone through again cycle by cycle by the emulation, to see which
+//! instruction each cycle met and what became of it.
+
+use crate::generator::Case;
+use crate::tapes::DAMAGES;
+use crate::words::WORD;
+use protocol::{Answer, Control, Kind, Listed, Outcome, Request};
+use std::collections::BTreeMap;
+use std::fmt;
+
+/// The mnemonic codes of A.2, by numeric code.
+const MNEMONICS: [&str; 64] = [
+    "AW", "IO", "BL", "HL", "LA", "LO", "LX", "WA", "WS", "AM", "WM", "AL", "ML", "JL", "JD", "JE",
+    "XL", "BS", "BA", "BZ", "RL", "SP", "KL", "RS", "WD", "RX", "HS", "XS", "PL", "PS", "MS", "IS",
+    "CI", "AC", "NS", "ND", "AS", "AD", "LS", "LD", "SH", "SL", "SE", "SN", "SO", "SZ", "SX", "IC",
+    "FA", "FS", "FM", "KS", "FD", "CF", "DL", "DS", "AA", "SS", "58", "59", "60", "61", "62", "63",
+];
+
+const CALLS: [&str; 5] = ["run", "reset key", "start key", "load", "remark"];
+const MODES: [&str; 4] = ["X+D", "(X+D)", "X+IC+D", "(X+IC+D)"];
+
+/// The classes of operands and results of the floating-point instructions.
+const FLOAT_CLASSES: [&str; 12] = [
+    "zero",
+    "fraction -1",
+    "largest fraction",
+    "not normalized",
+    "first word zero",
+    "exponent -2048",
+    "exponent 2047",
+    "difference 38 or more",
+    "difference 37",
+    "difference -37",
+    "difference -38 or less",
+    "overflow",
+];
+
+/// The most cycles of a run that are gone through again.
+const CYCLES: u32 = 40;
+
+/// Counts of what the cases were about.
+#[derive(Default)]
+pub struct Coverage {
+    cases: u64,
+    executed: BTreeMap<u32, u64>,
+    excepting: BTreeMap<u32, u64>,
+    addressing: BTreeMap<(u32, u32), u64>,
+    keys: BTreeMap<u32, u64>,
+    lines: BTreeMap<u32, u64>,
+    floats: BTreeMap<(u32, usize), u64>,
+    answers: BTreeMap<(usize, u32), u64>,
+    damages: BTreeMap<usize, u64>,
+    events: BTreeMap<&'static str, u64>,
+}
+
+/// The events that `Coverage` counts by name, beside the tables.
+const EVENTS: [&str; 28] = [
+    "outcome spent",
+    "outcome reset",
+    "outcome exception",
+    "outcome line",
+    "budget 0",
+    "budget 1 to 20",
+    "budget over 20",
+    "monitor mode",
+    "task mode",
+    "from monitor to task mode",
+    "odd IC",
+    "IC in the last cell",
+    "IC absent",
+    "forbidden fetch",
+    "modification used",
+    "AM after AM",
+    "AM that leaves 0",
+    "lines hidden by a modification",
+    "masked line",
+    "given IR bit 0",
+    "low precision",
+    "shift by 64 or more",
+    "shift by -64 or less",
+    "largest store",
+    "tape of 65,536 bytes",
+    "remark found",
+    "remark empty",
+    "no remark",
+];
+
+fn add<K: Ord>(counts: &mut BTreeMap<K, u64>, key: K) {
+    *counts.entry(key).or_insert(0) += 1;
+}
+
+/// The instruction that a cycle meets.
+struct Met {
+    code: u32,
+    m: u32,
+    x: u32,
+    key: u32,
+    /// The effective address, where an indirect one exists.
+    address: Option<u32>,
+    /// The register pair of the instruction.
+    pair: u64,
+    /// The double word at the effective address.
+    double: u64,
+}
+
+impl Coverage {
+    /// Counts a case and its answer.
+    pub fn count(&mut self, case: &Case, answer: &Answer) {
+        self.cases += 1;
+        self.count_answer(&case.request, answer);
+        for damage in &case.damages {
+            let place = DAMAGES.iter().position(|known| known == damage);
+            add(&mut self.damages, place.unwrap_or(DAMAGES.len()));
+        }
+        match &case.request {
+            Request::Run {
+                store,
+                control,
+                lines,
+                budget,
+            } => {
+                if let Answer::Run { report, .. } = answer {
+                    self.count_outcome(report.outcome, *budget);
+                    self.go_through(store, *control, *lines, *budget);
+                }
+            }
+            Request::Load { tape, .. } | Request::Remark { tape, .. } => {
+                let taken = !matches!(answer, Answer::Refused(_));
+                self.event_if(taken && tape.len() == 65_536, "tape of 65,536 bytes");
+            }
+            _ => (),
+        }
+    }
+
+    fn event(&mut self, name: &'static str) {
+        debug_assert!(EVENTS.contains(&name), "{name}");
+        add(&mut self.events, name);
+    }
+
+    fn event_if(&mut self, condition: bool, name: &'static str) {
+        if condition {
+            self.event(name);
+        }
+    }
+
+    fn count_answer(&mut self, request: &Request, answer: &Answer) {
+        let call = match request {
+            Request::Run { .. } => 0,
+            Request::PressReset { .. } => 1,
+            Request::PressStart { .. } => 2,
+            Request::Load { .. } => 3,
+            Request::Remark { .. } => 4,
+        };
+        let number = match answer {
+            Answer::Refused(refusal) => refusal.number(),
+            _ => 0,
+        };
+        add(&mut self.answers, (call, number));
+        if let Answer::Remark(text) = answer {
+            match text {
+                None => self.event("no remark"),
+                Some(text) if text.is_empty() => self.event("remark empty"),
+                Some(_) => self.event("remark found"),
+            }
+        }
+    }
+
+    fn count_outcome(&mut self, outcome: Outcome, budget: u32) {
+        match outcome {
+            Outcome::Spent => self.event("outcome spent"),
+            Outcome::Reset => self.event("outcome reset"),
+            Outcome::Interrupted(Kind::Exception) => self.event("outcome exception"),
+            Outcome::Interrupted(Kind::Line(_)) => self.event("outcome line"),
+        }
+        match budget {
+            0 => self.event("budget 0"),
+            1..=20 => self.event("budget 1 to 20"),
+            _ => self.event("budget over 20"),
+        }
+    }
+
+    /// Makes the cycles of a run one by one.
+    fn go_through(&mut self, listed: &Listed, mut control: Control, lines: u32, budget: u32) {
+        if listed.size > 4096 {
+            self.event_if(listed.size == 8_388_608, "largest store");
+            return;
+        }
+        let mut store = vec![0; listed.size];
+        for &(index, value) in &listed.cells {
+            store[index] = value;
+        }
+        control.ir |= lines;
+        for _ in 0..budget.min(CYCLES) {
+            let before = control;
+            let met = met(&store, &control);
+            let report = emulation::run(&mut store, &mut control, 0, 1);
+            let Ok(report) = report else { return };
+            if report.executed + report.entries == 0 {
+                return;
+            }
+            self.count_cycle(&before, &control, met.as_ref(), report.outcome, &store);
+            if let (Some(met), Outcome::Spent) = (met, report.outcome) {
+                self.count_operands(&met, &control);
+            }
+            if report.outcome != Outcome::Spent {
+                return;
+            }
+        }
+    }
+
+    fn count_cycle(
+        &mut self,
+        before: &Control,
+        after: &Control,
+        met: Option<&Met>,
+        outcome: Outcome,
+        store: &[u32],
+    ) {
+        let limit = 2 * store.len() as u32;
+        let raised = before.ir & before.im;
+        self.event_if(
+            before.enabled && before.pending != 0 && raised != 0,
+            "lines hidden by a modification",
+        );
+        self.event_if(before.enabled && before.ir & !before.im != 0, "masked line");
+        match outcome {
+            Outcome::Interrupted(Kind::Line(number)) => {
+                add(&mut self.lines, number);
+                self.event_if(number == 0, "given IR bit 0");
+            }
+            Outcome::Interrupted(Kind::Exception) => match met {
+                None => self.event("IC absent"),
+                Some(met) => {
+                    add(&mut self.excepting, met.code);
+                    let forbidden = before.pr & (128 >> met.key) != 0;
+                    self.event_if(!before.monitor && forbidden, "forbidden fetch");
+                }
+            },
+            _ => {
+                let Some(met) = met else { return };
+                add(&mut self.executed, met.code);
+                add(&mut self.addressing, (met.m, met.x));
+                add(&mut self.keys, met.key);
+                self.event(if after.monitor {
+                    "monitor mode"
+                } else {
+                    "task mode"
+                });
+                self.event_if(
+                    before.monitor && !after.monitor,
+                    "from monitor to task mode",
+                );
+                self.event_if(before.ic % 2 == 1, "odd IC");
+                self.event_if(before.ic / 2 == limit / 2 - 1, "IC in the last cell");
+                self.event_if(before.pending != 0, "modification used");
+                self.event_if(met.code == 9 && before.pending != 0, "AM after AM");
+                self.event_if(met.code == 9 && after.pending == 0, "AM that leaves 0");
+            }
+        }
+    }
+
+    /// Counts shift counts and the classes of floating-point operands.
+    fn count_operands(&mut self, met: &Met, after: &Control) {
+        if let (36..=39, Some(count)) = (met.code, met.address) {
+            let count = signed_word(count);
+            self.event_if(count >= 64, "shift by 64 or more");
+            self.event_if(count <= -64, "shift by -64 or less");
+        }
+        if !matches!(met.code, 32 | 48..=50 | 52 | 53) {
+            return;
+        }
+        self.event_if(after.ex & 4 != 0, "low precision");
+        let (fraction, exponent) = split(met.pair);
+        let (other, other_exponent) = split(met.double);
+        let arithmetic = !matches!(met.code, 32 | 53);
+        let difference = exponent - other_exponent;
+        let classes = [
+            fraction == 0,
+            fraction == -(1 << 35),
+            fraction == (1 << 35) - 1,
+            fraction != 0 && (-(1 << 34)..1 << 34).contains(&fraction),
+            fraction != 0 && (0..1 << 12).contains(&fraction)
+                || arithmetic && other != 0 && (0..1 << 12).contains(&other),
+            exponent == -2048,
+            exponent == 2047,
+            arithmetic && difference >= 38,
+            arithmetic && difference == 37,
+            arithmetic && difference == -37,
+            arithmetic && difference <= -38,
+            after.ex & 2 != 0,
+        ];
+        for (class, holds) in classes.into_iter().enumerate() {
+            if holds {
+                add(&mut self.floats, (met.code, class));
+            }
+        }
+    }
+
+    /// What no case was about.
+    pub fn missing(&self) -> Vec<String> {
+        let mut missing = Vec::new();
+        let mut need = |present: bool, name: String| {
+            if !present {
+                missing.push(name);
+            }
+        };
+        for code in 0..64 {
+            let name = MNEMONICS[code as usize];
+            let executed = self.executed.contains_key(&code);
+            need(executed || code >= 58, format!("{name} executed"));
+            let excepting = self.excepting.contains_key(&code);
+            need(excepting, format!("{name} excepting"));
+        }
+        for m in 0..4 {
+            for x in 0..4 {
+                let present = self.addressing.contains_key(&(m, x));
+                need(present, format!("M {m} X {x}"));
+            }
+        }
+        for key in 0..8 {
+            need(self.keys.contains_key(&key), format!("key {key}"));
+        }
+        for line in 0..24 {
+            need(self.lines.contains_key(&(2 * line)), format!("line {line}"));
+        }
+        for (call, numbers) in EXPECTED_ANSWERS.iter().enumerate() {
+            for &number in *numbers {
+                let present = self.answers.contains_key(&(call, number));
+                need(present, format!("{} refused {number}", CALLS[call]));
+            }
+        }
+        for (place, damage) in DAMAGES.iter().enumerate() {
+            need(self.damages.contains_key(&place), format!("{damage:?}"));
+        }
+        for code in [32, 48, 49, 50, 52, 53] {
+            for (class, name) in FLOAT_CLASSES.iter().enumerate() {
+                let arithmetic = !matches!(code, 32 | 53);
+                let apart = (7..=10).contains(&class) && !arithmetic;
+                let present = self.floats.contains_key(&(code, class));
+                let mnemonic = MNEMONICS[code as usize];
+                need(present || apart, format!("{mnemonic} {name}"));
+            }
+        }
+        for name in EVENTS {
+            need(self.events.contains_key(name), name.to_string());
+        }
+        missing
+    }
+}
+
+/// The refusals that each call can give; 0 stands for none.
+const EXPECTED_ANSWERS: [&[u32]; 5] = [
+    &[0, 1, 2, 3, 4, 5],
+    &[0, 1, 2, 3],
+    &[0, 1, 2, 3],
+    &[0, 1, 2, 3, 6, 7, 8, 9, 10, 11, 12],
+    &[0, 1, 3, 6, 7, 8, 9, 10, 11, 12],
+];
+
+fn byte(store: &[u32], address: u32) -> Option<u32> {
+    let cell = *store.get((address / 2) as usize)?;
+    Some(if address % 2 == 0 {
+        (cell >> 12) & 0xfff
+    } else {
+        cell & 0xfff
+    })
+}
+
+/// The instruction at IC, where there is one.
+fn met(store: &[u32], control: &Control) -> Option<Met> {
+    let fr = byte(store, control.ic)?;
+    let displacement = byte(store, (control.ic + 1) & WORD)?;
+    let (w, m, x) = ((fr >> 4) & 3, (fr >> 2) & 3, fr & 3);
+    let mut address = ((displacement ^ 0x800).wrapping_sub(0x800)).wrapping_add(control.pending);
+    if m >= 2 {
+        address = address.wrapping_add(control.ic);
+    }
+    if x != 0 {
+        address = address.wrapping_add(store[x as usize]);
+    }
+    let direct = address & WORD;
+    let address = if m % 2 == 0 {
+        Some(direct)
+    } else {
+        store.get((direct / 2) as usize).map(|cell| cell & WORD)
+    };
+    Some(Met {
+        code: fr >> 6,
+        m,
+        x,
+        key: store[(control.ic / 2) as usize] >> 24,
+        address,
+        pair: double(store, w as usize),
+        double: double(
+            store,
+            address.map_or(usize::MAX, |address| address as usize / 2),
+        ),
+    })
+}
+
+/// The double word whose second word is in this cell, 0 where it is absent.
+fn double(store: &[u32], cell: usize) -> u64 {
+    let word = |cell: usize| u64::from(store.get(cell).copied().unwrap_or(0) & WORD);
+    let first = if cell == 0 { 3 } else { cell - 1 };
+    (word(first) << 24) | word(cell)
+}
+
+fn signed_word(word: u32) -> i32 {
+    ((word << 8) as i32) >> 8
+}
+
+/// Fraction and exponent of a floating-point number.
+fn split(bits: u64) -> (i64, i64) {
+    let fraction = ((bits << 16) as i64) >> 28;
+    let exponent = ((bits << 52) as i64) >> 52;
+    (fraction, exponent)
+}
+
+impl fmt::Display for Coverage {
+    fn fmt(&self, formatter: &mut fmt::Formatter) -> fmt::Result {
+        let count = |present: Option<&u64>| present.copied().unwrap_or(0);
+        writeln!(formatter, "cases: {}", self.cases)?;
+        writeln!(formatter, "instructions, executed / excepting:")?;
+        for row in 0..16 {
+            for code in (row..64).step_by(16) {
+                write!(
+                    formatter,
+                    "  {:2} {:2} {:>9} / {:<7}",
+                    code,
+                    MNEMONICS[code as usize],
+                    count(self.executed.get(&code)),
+                    count(self.excepting.get(&code))
+                )?;
+            }
+            writeln!(formatter)?;
+        }
+        writeln!(formatter, "address modes, X = 0 to 3:")?;
+        for m in 0..4 {
+            write!(formatter, "  {:8}", MODES[m as usize])?;
+            for x in 0..4 {
+                write!(formatter, " {:>9}", count(self.addressing.get(&(m, x))))?;
+            }
+            writeln!(formatter)?;
+        }
+        write!(formatter, "keys 0 to 7:")?;
+        for key in 0..8 {
+            write!(formatter, " {}", count(self.keys.get(&key)))?;
+        }
+        write!(formatter, "\nlines 0 to 23:")?;
+        for line in 0..24 {
+            write!(formatter, " {}", count(self.lines.get(&(2 * line))))?;
+        }
+        writeln!(formatter, "\nanswers of each call:")?;
+        for (call, name) in CALLS.iter().enumerate() {
+            write!(
+                formatter,
+                "  {name}: done {}",
+                count(self.answers.get(&(call, 0)))
+            )?;
+            for number in 1..=12 {
+                if let Some(times) = self.answers.get(&(call, number)) {
+                    write!(formatter, ", refused {number} {times}")?;
+                }
+            }
+            writeln!(formatter)?;
+        }
+        writeln!(formatter, "damages of tapes:")?;
+        for (place, damage) in DAMAGES.iter().enumerate() {
+            writeln!(
+                formatter,
+                "  {damage:?} {}",
+                count(self.damages.get(&place))
+            )?;
+        }
+        writeln!(
+            formatter,
+            "floating-point operands and results, CI FA FS FM FD CF:"
+        )?;
+        for (class, name) in FLOAT_CLASSES.iter().enumerate() {
+            write!(formatter, "  {name:24}")?;
+            for code in [32, 48, 49, 50, 52, 53] {
+                write!(formatter, " {:>8}", count(self.floats.get(&(code, class))))?;
+            }
+            writeln!(formatter)?;
+        }
+        writeln!(formatter, "events:")?;
+        for name in EVENTS {
+            writeln!(formatter, "  {name} {}", count(self.events.get(name)))?;
+        }
+        let missing = self.missing();
+        if missing.is_empty() {
+            write!(formatter, "not covered: nothing")
+        } else {
+            write!(formatter, "not covered: {}", missing.join(", "))
+        }
+    }
+}

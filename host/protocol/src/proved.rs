@@ -1,0 +1,98 @@
+//! The proved library as a machine.
+
+use crate::machine::Machine;
+use emulation::{Control, Kind, Outcome, Refusal, Report};
+
+/// The proved library.
+pub struct Proved;
+
+fn to_library(control: &Control) -> rc4000::Control {
+    rc4000::Control {
+        ic: control.ic,
+        ir: control.ir,
+        im: control.im,
+        pending: control.pending,
+        pr: control.pr,
+        ex: control.ex,
+        monitor: control.monitor,
+        enabled: control.enabled,
+        reset: control.reset,
+    }
+}
+
+fn from_library(control: &rc4000::Control) -> Control {
+    Control {
+        ic: control.ic,
+        ir: control.ir,
+        im: control.im,
+        pending: control.pending,
+        pr: control.pr,
+        ex: control.ex,
+        monitor: control.monitor,
+        enabled: control.enabled,
+        reset: control.reset,
+    }
+}
+
+fn refusal(refusal: rc4000::Refusal) -> Refusal {
+    Refusal::from_number(refusal.number()).expect("the numbers are the same")
+}
+
+fn outcome(outcome: rc4000::Outcome) -> Outcome {
+    match outcome {
+        rc4000::Outcome::Spent => Outcome::Spent,
+        rc4000::Outcome::Reset => Outcome::Reset,
+        rc4000::Outcome::Interrupted(rc4000::Kind::Exception) => {
+            Outcome::Interrupted(Kind::Exception)
+        }
+        rc4000::Outcome::Interrupted(rc4000::Kind::Line(number)) => {
+            Outcome::Interrupted(Kind::Line(number))
+        }
+    }
+}
+
+/// Makes a call of the library on the library's kind of control record.
+fn call<T>(
+    control: &mut Control,
+    call: impl FnOnce(&mut rc4000::Control) -> Result<T, rc4000::Refusal>,
+) -> Result<T, Refusal> {
+    let mut library_control = to_library(control);
+    let result = call(&mut library_control);
+    *control = from_library(&library_control);
+    result.map_err(refusal)
+}
+
+impl Machine for Proved {
+    fn run(
+        &self,
+        store: &mut [u32],
+        control: &mut Control,
+        lines: u32,
+        budget: u32,
+    ) -> Result<Report, Refusal> {
+        let report = call(control, |control| {
+            rc4000::run(store, control, lines, budget)
+        })?;
+        Ok(Report {
+            outcome: outcome(report.outcome),
+            executed: report.executed,
+            entries: report.entries,
+        })
+    }
+
+    fn press_reset(&self, store: &mut [u32], control: &mut Control) -> Result<(), Refusal> {
+        call(control, |control| rc4000::press_reset(store, control))
+    }
+
+    fn press_start(&self, store: &mut [u32], control: &mut Control) -> Result<(), Refusal> {
+        call(control, |control| rc4000::press_start(store, control))
+    }
+
+    fn load(&self, store: &mut [u32], control: &mut Control, tape: &[u8]) -> Result<(), Refusal> {
+        call(control, |control| rc4000::load(store, control, tape))
+    }
+
+    fn remark<'t>(&self, tape: &'t [u8], cells: usize) -> Result<Option<&'t [u8]>, Refusal> {
+        rc4000::remark(tape, cells).map_err(refusal)
+    }
+}

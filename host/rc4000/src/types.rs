@@ -1,0 +1,161 @@
+//! Control record, outcome and refusals.
+
+use std::fmt;
+
+/// The control record of a machine. Reset state implies monitor mode and
+/// interrupts disabled.
+#[repr(C)]
+#[derive(Clone, Copy, Debug, PartialEq, Eq, Hash)]
+pub struct Control {
+    /// Instruction counter, 24 bits.
+    pub ic: u32,
+    /// Interrupt register, 24 bits; bit 0 is the left-most.
+    pub ir: u32,
+    /// Mask register, 24 bits.
+    pub im: u32,
+    /// The modification that AM left for the next instruction, 0 if none.
+    pub pending: u32,
+    /// Protection register, 128 to 255.
+    pub pr: u32,
+    /// Exception register, 0 to 7.
+    pub ex: u32,
+    /// Monitor mode; task mode where it is no.
+    pub monitor: bool,
+    /// Interrupts enabled.
+    pub enabled: bool,
+    /// The reset state.
+    pub reset: bool,
+}
+
+impl Control {
+    /// Address of the interrupt number.
+    pub const INTERRUPT_NUMBER: u32 = 8;
+    /// Address of the return address.
+    pub const RETURN_ADDRESS: u32 = 10;
+    /// Address of the interruption program's address.
+    pub const INTERRUPTION_PROGRAM: u32 = 12;
+    /// Address of the start address.
+    pub const START_ADDRESS: u32 = 14;
+
+    /// A record of zeros in monitor mode, interrupts disabled.
+    pub const fn fresh() -> Self {
+        Control {
+            ic: 0,
+            ir: 0,
+            im: 0,
+            pending: 0,
+            pr: 128,
+            ex: 0,
+            monitor: true,
+            enabled: false,
+            reset: false,
+        }
+    }
+
+    /// The fresh record in the reset state.
+    pub const fn power_on() -> Self {
+        let mut control = Self::fresh();
+        control.reset = true;
+        control
+    }
+}
+
+impl Default for Control {
+    fn default() -> Self {
+        Self::fresh()
+    }
+}
+
+/// What interrupted a run.
+#[derive(Clone, Copy, Debug, PartialEq, Eq, Hash)]
+pub enum Kind {
+    /// An instruction exception.
+    Exception,
+    /// A raised line, with the number stored in word 8.
+    Line(u32),
+}
+
+/// How a run ended.
+#[derive(Clone, Copy, Debug, PartialEq, Eq, Hash)]
+pub enum Outcome {
+    /// The budget is used.
+    Spent,
+    /// The machine is in the reset state.
+    Reset,
+    /// The run ended after an interruption entry.
+    Interrupted(Kind),
+}
+
+/// The outcome of a run and what its cycles were.
+#[derive(Clone, Copy, Debug, PartialEq, Eq, Hash)]
+pub struct Report {
+    /// How the run ended.
+    pub outcome: Outcome,
+    /// Executed instructions.
+    pub executed: u32,
+    /// Interruption entries.
+    pub entries: u32,
+}
+
+/// Why a call was refused.
+#[derive(Clone, Copy, Debug, PartialEq, Eq, Hash)]
+pub enum Refusal {
+    /// 1: fewer than 8 or more than 8,388,608 cells.
+    Cells = 1,
+    /// 2: a cell of 134,217,728 or more.
+    Cell = 2,
+    /// 3: a control field outside its width or the rules.
+    Control = 3,
+    /// 4: lines with bit 0, 1 or 2 set, or over 24 bits.
+    Lines = 4,
+    /// 5: a budget over 65,535.
+    Budget = 5,
+    /// 6: the tape stops inside a header or payload, or before an end record.
+    TapeStops = 6,
+    /// 7: a record kind not 1 to 4.
+    Kind = 7,
+    /// 8: a length wrong for the kind.
+    Length = 8,
+    /// 9: a block beyond the store.
+    Block = 9,
+    /// 10: a cell of a block of 134,217,728 or more.
+    TapeCell = 10,
+    /// 11: records in the wrong sequence, or bytes after the end.
+    Sequence = 11,
+    /// 12: a tape of over 65,536 bytes.
+    TapeLength = 12,
+}
+
+impl Refusal {
+    /// The refusal's number.
+    pub const fn number(self) -> u32 {
+        self as u32
+    }
+
+    /// The refusal with this number.
+    pub const fn from_number(number: u32) -> Option<Self> {
+        Some(match number {
+            1 => Refusal::Cells,
+            2 => Refusal::Cell,
+            3 => Refusal::Control,
+            4 => Refusal::Lines,
+            5 => Refusal::Budget,
+            6 => Refusal::TapeStops,
+            7 => Refusal::Kind,
+            8 => Refusal::Length,
+            9 => Refusal::Block,
+            10 => Refusal::TapeCell,
+            11 => Refusal::Sequence,
+            12 => Refusal::TapeLength,
+            _ => return None,
+        })
+    }
+}
+
+impl fmt::Display for Refusal {
+    fn fmt(&self, formatter: &mut fmt::Formatter) -> fmt::Result {
+        write!(formatter, "refused {}", self.number())
+    }
+}
+
+impl std::error::Error for Refusal {}
