@@ -66,6 +66,9 @@ impl<'a> Processor<'a> {
             return None;
         }
         let raised = self.control.ir & self.control.im;
+        if raised == 0 {
+            return None;
+        }
         (0..24).find(|&line| raised & bit(line) != 0)
     }
 

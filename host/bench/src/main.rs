@@ -1,0 +1,150 @@
+//! `bench [SECONDS]`: one table, the proved library against the emulation.
+//!
+//! A program is a tape whose loop does not end; it is run with the largest
+//! budget again and again. The two machines take their slices of time by
+//! turns, and a figure is the median over the slices. SECONDS is the time for
+//! each row, 4 where it is not given.
+
+use protocol::{Control, Emulation, Machine, Outcome};
+use std::time::{Duration, Instant};
+
+#[cfg(feature = "proved")]
+const TESTED: protocol::Proved = protocol::Proved;
+#[cfg(not(feature = "proved"))]
+const TESTED: Emulation = Emulation;
+
+/// Slices of time that each machine has in a row of the table.
+const SLICES: u32 = 9;
+const LARGEST_BUDGET: u32 = 65_535;
+
+/// A row of the table.
+struct Row {
+    name: &'static str,
+    tape: &'static [u8],
+    cells: usize,
+    budget: u32,
+}
+
+macro_rules! tape {
+    ($name:literal) => {
+        include_bytes!(concat!("../tapes/", $name, ".tape"))
+    };
+}
+
+const fn program(name: &'static str, tape: &'static [u8]) -> Row {
+    Row {
+        name,
+        tape,
+        cells: 4096,
+        budget: LARGEST_BUDGET,
+    }
+}
+
+const fn calls(name: &'static str, cells: usize) -> Row {
+    Row {
+        name,
+        tape: tape!("registers"),
+        cells,
+        budget: 1,
+    }
+}
+
+const ROWS: [Row; 8] = [
+    program("register loop", tape!("registers")),
+    program("byte copy loop", tape!("bytes")),
+    program("multiply loop (WM)", tape!("multiply")),
+    program("divide loop (WD)", tape!("divide")),
+    program("floating loop (FA FM FD)", tape!("floating")),
+    program("task-mode loop with stores", tape!("task")),
+    calls("budget 1, 4,096 cells", 4096),
+    calls("budget 1, 1,048,576 cells", 1_048_576),
+];
+
+/// A machine with the tape of a row loaded.
+struct Loaded<M> {
+    machine: M,
+    store: Vec<u32>,
+    control: Control,
+    budget: u32,
+}
+
+impl<M: Machine> Loaded<M> {
+    fn new(machine: M, row: &Row) -> Self {
+        let mut store = vec![0; row.cells];
+        let mut control = Control::fresh();
+        machine
+            .load(&mut store, &mut control, row.tape)
+            .expect("the tape loads");
+        Loaded {
+            machine,
+            store,
+            control,
+            budget: row.budget,
+        }
+    }
+
+    /// Runs for this time and gives the instructions per second.
+    fn rate(&mut self, slice: Duration) -> f64 {
+        let start = Instant::now();
+        let mut executed = 0;
+        loop {
+            let report = self
+                .machine
+                .run(&mut self.store, &mut self.control, 0, self.budget)
+                .expect("a run that is not refused");
+            assert_eq!(report.outcome, Outcome::Spent);
+            executed += u64::from(report.executed);
+            let elapsed = start.elapsed();
+            if elapsed >= slice {
+                return executed as f64 / elapsed.as_secs_f64();
+            }
+        }
+    }
+}
+
+fn median(mut figures: Vec<f64>) -> f64 {
+    figures.sort_by(f64::total_cmp);
+    figures[figures.len() / 2]
+}
+
+/// Rates of both machines and the ratio, measured by turns.
+fn measure(row: &Row, seconds: f64) -> (f64, f64, f64) {
+    let slice = Duration::from_secs_f64(seconds / f64::from(2 * SLICES));
+    let mut tested = Loaded::new(TESTED, row);
+    let mut emulation = Loaded::new(Emulation, row);
+    tested.rate(slice / 4);
+    emulation.rate(slice / 4);
+    let slices: Vec<(f64, f64)> = (0..SLICES)
+        .map(|_| (tested.rate(slice), emulation.rate(slice)))
+        .collect();
+    (
+        median(slices.iter().map(|pair| pair.0).collect()),
+        median(slices.iter().map(|pair| pair.1).collect()),
+        median(slices.iter().map(|pair| pair.0 / pair.1).collect()),
+    )
+}
+
+fn main() {
+    let seconds = std::env::args()
+        .nth(1)
+        .map_or(4.0, |seconds| seconds.parse().expect("a number of seconds"));
+    let tested = if cfg!(feature = "proved") {
+        "proved"
+    } else {
+        "emulation"
+    };
+    println!("instructions per second, in millions; ratio of the two speeds");
+    println!(
+        "{:28} {tested:>10} {:>10} {:>7}",
+        "program", "emulation", "ratio"
+    );
+    for row in &ROWS {
+        let (tested, emulation, ratio) = measure(row, seconds);
+        println!(
+            "{:28} {:>10.3} {:>10.3} {ratio:>7.2}",
+            row.name,
+            tested / 1e6,
+            emulation / 1e6
+        );
+    }
+}

@@ -1,0 +1,36 @@
+/* The structs of rc4000.h have the layout that the library and the Rust
+ * wrapper count on. Nothing here runs: it compiles or it does not. */
+#include "rc4000.h"
+
+#define AT(type, field, offset) \
+    _Static_assert(offsetof(type, field) == (offset), #type "." #field)
+#define SIZE(type, size) _Static_assert(sizeof(type) == (size), #type)
+
+SIZE(bool, 1);
+SIZE(rc4000_control, 28);
+AT(rc4000_control, ic, 0);
+AT(rc4000_control, ir, 4);
+AT(rc4000_control, im, 8);
+AT(rc4000_control, pending, 12);
+AT(rc4000_control, pr, 16);
+AT(rc4000_control, ex, 20);
+AT(rc4000_control, monitor, 24);
+AT(rc4000_control, enabled, 25);
+AT(rc4000_control, reset, 26);
+
+SIZE(rc4000_result, 44);
+AT(rc4000_result, control, 0);
+AT(rc4000_result, outcome, 28);
+AT(rc4000_result, number, 32);
+AT(rc4000_result, executed, 36);
+AT(rc4000_result, entries, 40);
+
+SIZE(rc4000_state, 32);
+AT(rc4000_state, control, 0);
+AT(rc4000_state, refusal, 28);
+
+SIZE(rc4000_text, 24);
+AT(rc4000_text, refusal, 0);
+AT(rc4000_text, found, 4);
+AT(rc4000_text, start, 8);
+AT(rc4000_text, end, 16);

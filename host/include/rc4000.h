@@ -1,0 +1,87 @@
+/* The proved RC 4000 emulator for programs in C.
+ *
+ * The store is a row of cells that the caller lends for a call:
+ * cell = key * 16777216 + word, key 0 to 7, word 24 bits. Cell i has the byte
+ * addresses 2i and 2i + 1. A store has 8 to 8388608 cells.
+ *
+ * A call that is refused gives the refusal's number, 1 to 12, and leaves the
+ * store as it was; the control record comes back as given.
+ *
+ * Link with libcapi.a. */
+#ifndef RC4000_H
+#define RC4000_H
+
+#include <stdbool.h>
+#include <stddef.h>
+#include <stdint.h>
+
+#ifdef __cplusplus
+extern "C" {
+#endif
+
+/* The control record. Reset state implies monitor mode and disabled. */
+typedef struct {
+    uint32_t ic;      /* instruction counter, 24 bits */
+    uint32_t ir;      /* interrupt register, 24 bits, bit 0 left-most */
+    uint32_t im;      /* mask register, 24 bits */
+    uint32_t pending; /* modification left by AM, 24 bits, 0 if none */
+    uint32_t pr;      /* protection register, 128 to 255 */
+    uint32_t ex;      /* exception register, 0 to 7 */
+    bool monitor;     /* monitor mode */
+    bool enabled;     /* interrupts enabled */
+    bool reset;       /* reset state */
+} rc4000_control;
+
+/* rc4000_result.outcome */
+enum {
+    RC4000_REFUSED = 0,   /* number is the refusal's */
+    RC4000_SPENT = 1,     /* the budget is used */
+    RC4000_RESET = 2,     /* the reset state */
+    RC4000_EXCEPTION = 3, /* interrupted by an instruction exception */
+    RC4000_LINE = 4       /* interrupted by a line; number is the one stored */
+};
+
+typedef struct {
+    rc4000_control control;
+    uint32_t outcome;
+    uint32_t number;   /* 0 unless refused or interrupted by a line */
+    uint32_t executed; /* executed instructions */
+    uint32_t entries;  /* interruption entries */
+} rc4000_result;
+
+typedef struct {
+    rc4000_control control;
+    uint32_t refusal; /* 0: done */
+} rc4000_state;
+
+typedef struct {
+    uint32_t refusal; /* 0: the tape loads */
+    bool found;       /* it has a remark: bytes start to end - 1 of the tape */
+    size_t start, end;
+} rc4000_text;
+
+/* Runs at most budget cycles, at most 65535. The raised lines, bits 3 to 23,
+ * join IR first. */
+rc4000_result rc4000_run(uint32_t *store, size_t cells, rc4000_control control, uint32_t lines,
+                         uint32_t budget);
+
+/* The reset key: word 10 takes IC, and the machine is in the reset state. */
+rc4000_state rc4000_press_reset(uint32_t *store, size_t cells, rc4000_control control);
+
+/* The start key: in the reset state IC is taken from word 14 and the state is
+ * left. */
+rc4000_state rc4000_press_start(uint32_t *store, size_t cells, rc4000_control control);
+
+/* Loads a tape of at most 65536 bytes. The control record that comes back is
+ * the tape's; the one given is not tested. */
+rc4000_state rc4000_load(uint32_t *store, size_t cells, rc4000_control control,
+                         const uint8_t *tape, size_t length);
+
+/* The first remark of a tape that loads into a store of this many cells. */
+rc4000_text rc4000_remark(const uint8_t *tape, size_t length, size_t cells);
+
+#ifdef __cplusplus
+}
+#endif
+
+#endif
