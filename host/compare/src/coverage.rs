@@ -21,6 +21,9 @@ const MNEMONICS: [&str; 64] = [
 const CALLS: [&str; 5] = ["run", "reset key", "start key", "load", "remark"];
 const MODES: [&str; 4] = ["X+D", "(X+D)", "X+IC+D", "(X+IC+D)"];
 
+/// The floating-point instructions: CI FA FS FM FD CF.
+const FLOAT_CODES: [u32; 6] = [32, 48, 49, 50, 52, 53];
+
 /// The classes of operands and results of the floating-point instructions.
 const FLOAT_CLASSES: [&str; 12] = [
     "zero",
@@ -268,7 +271,7 @@ impl Coverage {
             self.event_if(count >= 64, "shift by 64 or more");
             self.event_if(count <= -64, "shift by -64 or less");
         }
-        if !matches!(met.code, 32 | 48..=50 | 52 | 53) {
+        if !FLOAT_CODES.contains(&met.code) {
             return;
         }
         self.event_if(after.ex & 4 != 0, "low precision");
@@ -300,54 +303,70 @@ impl Coverage {
 
     /// What no case was about.
     pub fn missing(&self) -> Vec<String> {
-        let mut missing = Vec::new();
-        let mut need = |present: bool, name: String| {
-            if !present {
-                missing.push(name);
-            }
-        };
-        for code in 0..64 {
-            let name = MNEMONICS[code as usize];
-            let executed = self.executed.contains_key(&code);
-            need(executed || code >= 58, format!("{name} executed"));
-            let excepting = self.excepting.contains_key(&code);
-            need(excepting, format!("{name} excepting"));
-        }
-        for m in 0..4 {
-            for x in 0..4 {
-                let present = self.addressing.contains_key(&(m, x));
-                need(present, format!("M {m} X {x}"));
-            }
-        }
-        for key in 0..8 {
-            need(self.keys.contains_key(&key), format!("key {key}"));
-        }
-        for line in 0..24 {
-            need(self.lines.contains_key(&(2 * line)), format!("line {line}"));
-        }
-        for (call, numbers) in EXPECTED_ANSWERS.iter().enumerate() {
-            for &number in *numbers {
-                let present = self.answers.contains_key(&(call, number));
-                need(present, format!("{} refused {number}", CALLS[call]));
-            }
-        }
-        for (place, damage) in DAMAGES.iter().enumerate() {
-            need(self.damages.contains_key(&place), format!("{damage:?}"));
-        }
-        for code in [32, 48, 49, 50, 52, 53] {
-            for (class, name) in FLOAT_CLASSES.iter().enumerate() {
-                let arithmetic = !matches!(code, 32 | 53);
-                let apart = (7..=10).contains(&class) && !arithmetic;
-                let present = self.floats.contains_key(&(code, class));
-                let mnemonic = MNEMONICS[code as usize];
-                need(present || apart, format!("{mnemonic} {name}"));
-            }
-        }
-        for name in EVENTS {
-            need(self.events.contains_key(name), name.to_string());
-        }
+        let mut missing = self.missing_instructions();
+        missing.extend(self.missing_floats());
+        missing.extend(self.missing_answers());
+        let addressing = (0..16).map(|both| (both / 4, both % 4));
+        missing.extend(
+            addressing
+                .filter(|both| !self.addressing.contains_key(both))
+                .map(|(m, x)| format!("M {m} X {x}")),
+        );
+        missing.extend(absent(0..8, &self.keys, |key| format!("key {key}")));
+        let numbers = (0..24).map(|line| 2 * line);
+        missing.extend(absent(numbers, &self.lines, |number| {
+            format!("line {}", number / 2)
+        }));
+        missing.extend(absent(0..DAMAGES.len(), &self.damages, |place| {
+            format!("{:?}", DAMAGES[place])
+        }));
+        missing.extend(absent(EVENTS, &self.events, str::to_string));
         missing
     }
+
+    fn missing_instructions(&self) -> Vec<String> {
+        let name = |code: u32| MNEMONICS[code as usize];
+        let mut missing = absent(0..58, &self.executed, |code| {
+            format!("{} executed", name(code))
+        });
+        missing.extend(absent(0..64, &self.excepting, |code| {
+            format!("{} excepting", name(code))
+        }));
+        missing
+    }
+
+    /// CI and CF have no second operand, so no difference of exponents.
+    fn missing_floats(&self) -> Vec<String> {
+        let classes = FLOAT_CODES
+            .into_iter()
+            .flat_map(|code| (0..FLOAT_CLASSES.len()).map(move |class| (code, class)))
+            .filter(|&(code, class)| !(matches!(code, 32 | 53) && (7..=10).contains(&class)));
+        absent(classes, &self.floats, |(code, class)| {
+            format!("{} {}", MNEMONICS[code as usize], FLOAT_CLASSES[class])
+        })
+    }
+
+    fn missing_answers(&self) -> Vec<String> {
+        let answers = EXPECTED_ANSWERS
+            .iter()
+            .enumerate()
+            .flat_map(|(call, numbers)| numbers.iter().map(move |&number| (call, number)));
+        absent(answers, &self.answers, |(call, number)| {
+            format!("{} refused {number}", CALLS[call])
+        })
+    }
+}
+
+/// The names of those that were never counted.
+fn absent<K: Ord + Copy>(
+    all: impl IntoIterator<Item = K>,
+    counts: &BTreeMap<K, u64>,
+    name: impl Fn(K) -> String,
+) -> Vec<String> {
+    all.into_iter()
+        .filter(|key| !counts.contains_key(key))
+        .map(name)
+        .collect()
 }
 
 /// The refusals that each call can give; 0 stands for none.
@@ -418,46 +437,43 @@ fn split(bits: u64) -> (i64, i64) {
     (fraction, exponent)
 }
 
-impl fmt::Display for Coverage {
-    fn fmt(&self, formatter: &mut fmt::Formatter) -> fmt::Result {
-        let count = |present: Option<&u64>| present.copied().unwrap_or(0);
-        writeln!(formatter, "cases: {}", self.cases)?;
+fn times<K: Ord>(counts: &BTreeMap<K, u64>, key: K) -> u64 {
+    counts.get(&key).copied().unwrap_or(0)
+}
+
+impl Coverage {
+    fn write_instructions(&self, formatter: &mut fmt::Formatter) -> fmt::Result {
         writeln!(formatter, "instructions, executed / excepting:")?;
         for row in 0..16 {
             for code in (row..64).step_by(16) {
+                let name = MNEMONICS[code as usize];
+                let executed = times(&self.executed, code);
+                let excepting = times(&self.excepting, code);
                 write!(
                     formatter,
-                    "  {:2} {:2} {:>9} / {:<7}",
-                    code,
-                    MNEMONICS[code as usize],
-                    count(self.executed.get(&code)),
-                    count(self.excepting.get(&code))
+                    "  {code:2} {name:2} {executed:>9} / {excepting:<7}"
                 )?;
             }
             writeln!(formatter)?;
         }
         writeln!(formatter, "address modes, X = 0 to 3:")?;
-        for m in 0..4 {
-            write!(formatter, "  {:8}", MODES[m as usize])?;
+        for (m, name) in (0..).zip(MODES) {
+            write!(formatter, "  {name:8}")?;
             for x in 0..4 {
-                write!(formatter, " {:>9}", count(self.addressing.get(&(m, x))))?;
+                write!(formatter, " {:>9}", times(&self.addressing, (m, x)))?;
             }
             writeln!(formatter)?;
         }
-        write!(formatter, "keys 0 to 7:")?;
-        for key in 0..8 {
-            write!(formatter, " {}", count(self.keys.get(&key)))?;
-        }
-        write!(formatter, "\nlines 0 to 23:")?;
-        for line in 0..24 {
-            write!(formatter, " {}", count(self.lines.get(&(2 * line))))?;
-        }
-        writeln!(formatter, "\nanswers of each call:")?;
+        Ok(())
+    }
+
+    fn write_answers(&self, formatter: &mut fmt::Formatter) -> fmt::Result {
+        writeln!(formatter, "answers of each call:")?;
         for (call, name) in CALLS.iter().enumerate() {
             write!(
                 formatter,
                 "  {name}: done {}",
-                count(self.answers.get(&(call, 0)))
+                times(&self.answers, (call, 0))
             )?;
             for number in 1..=12 {
                 if let Some(times) = self.answers.get(&(call, number)) {
@@ -468,26 +484,43 @@ impl fmt::Display for Coverage {
         }
         writeln!(formatter, "damages of tapes:")?;
         for (place, damage) in DAMAGES.iter().enumerate() {
-            writeln!(
-                formatter,
-                "  {damage:?} {}",
-                count(self.damages.get(&place))
-            )?;
+            writeln!(formatter, "  {damage:?} {}", times(&self.damages, place))?;
         }
-        writeln!(
-            formatter,
-            "floating-point operands and results, CI FA FS FM FD CF:"
-        )?;
+        Ok(())
+    }
+
+    fn write_floats(&self, formatter: &mut fmt::Formatter) -> fmt::Result {
+        let names = FLOAT_CODES.map(|code| MNEMONICS[code as usize]).join(" ");
+        writeln!(formatter, "floating-point operands and results, {names}:")?;
         for (class, name) in FLOAT_CLASSES.iter().enumerate() {
             write!(formatter, "  {name:24}")?;
-            for code in [32, 48, 49, 50, 52, 53] {
-                write!(formatter, " {:>8}", count(self.floats.get(&(code, class))))?;
+            for code in FLOAT_CODES {
+                write!(formatter, " {:>8}", times(&self.floats, (code, class)))?;
             }
             writeln!(formatter)?;
         }
+        Ok(())
+    }
+}
+
+impl fmt::Display for Coverage {
+    fn fmt(&self, formatter: &mut fmt::Formatter) -> fmt::Result {
+        writeln!(formatter, "cases: {}", self.cases)?;
+        self.write_instructions(formatter)?;
+        write!(formatter, "keys 0 to 7:")?;
+        for key in 0..8 {
+            write!(formatter, " {}", times(&self.keys, key))?;
+        }
+        write!(formatter, "\nlines 0 to 23:")?;
+        for line in 0..24 {
+            write!(formatter, " {}", times(&self.lines, 2 * line))?;
+        }
+        writeln!(formatter)?;
+        self.write_answers(formatter)?;
+        self.write_floats(formatter)?;
         writeln!(formatter, "events:")?;
         for name in EVENTS {
-            writeln!(formatter, "  {name} {}", count(self.events.get(name)))?;
+            writeln!(formatter, "  {name} {}", times(&self.events, name))?;
         }
         let missing = self.missing();
         if missing.is_empty() {
