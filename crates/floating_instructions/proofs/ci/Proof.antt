@@ -1,0 +1,48 @@
+use Rattle.definition.specs.Codes.{executing}
+use Rattle.definition.specs.Meaning.{meaning}
+use Rattle.definition.specs.MicroOps.{microStep, microSteps, monitorStep, monitorSteps, perform}
+use borrow.Author.Needs.{needs}
+use Rattle.floating_instructions.proofs.ci.Statement.{statement}
+use Rattle.floating_instructions.proofs.ci.Tie as tie
+
+clear-flags-requires : tie.Need-clear-flags-requires
+clear-flags-requires c κs = search needs
+
+word-at-requires : tie.Need-word-at-requires
+word-at-requires c κs = search needs
+
+convert-integer-requires : tie.Need-convert-integer-requires
+convert-integer-requires c κs = search needs
+
+note-overflow-requires : tie.Need-note-overflow-requires
+note-overflow-requires c κs = search needs
+
+previous-register-requires : tie.Need-previous-register-requires
+previous-register-requires c κs = search needs
+
+put-long-requires : tie.Need-put-long-requires
+put-long-requires c κs = search needs
+
+put-long-requires-2 : tie.Need-put-long-requires-2
+put-long-requires-2 c κs = search needs
+
+same-length : tie.Need-same-length
+same-length c = search needs
+
+returns : tie.Need-returns
+unfolding executing perform meaning microSteps microStep monitorSteps monitorStep
+returns c = rw (← (c .before .before .before .before .before .before .before .before .before .before .before .before .before .clear-flags .ensures), ← (c .before .before .before .before .before .before .before .before .before .before .before .word-at .ensures .0), ← (c .before .before .before .before .before .before .before .before .before .before .convert-integer .ensures), ← (c .before .before .before .before .before .before .before .before .before .note-overflow .ensures), ← (c .before .before .before .before .before .before .before .before .previous-register .ensures), ← (c .before .before .before .before .before .before .put-long .ensures), ← (c .before .before .put-long2 .ensures))
+
+pub ci-spec : {M : Type 1} → statement M
+ci-spec =
+    tie.close
+    (tie.spec
+    clear-flags-requires
+    word-at-requires
+    convert-integer-requires
+    note-overflow-requires
+    previous-register-requires
+    put-long-requires
+    put-long-requires-2
+    same-length
+    returns)

@@ -1,0 +1,40 @@
+use Rattle.definition.specs.Codes.{executing}
+use Rattle.definition.specs.Meaning.{meaning}
+use Rattle.definition.specs.MicroOps.{microStep, microSteps, monitorStep, monitorSteps, perform}
+use borrow.Author.Needs.{needs}
+use Rattle.integer_instructions.proofs.ac.Statement.{statement}
+use Rattle.integer_instructions.proofs.ac.Tie as tie
+
+clear-flags-requires : tie.Need-clear-flags-requires
+clear-flags-requires c κs = search needs
+
+subtract-requires : tie.Need-subtract-requires
+subtract-requires c κs = search needs
+
+put-word-requires : tie.Need-put-word-requires
+put-word-requires c κs = search needs
+
+note-overflow-requires : tie.Need-note-overflow-requires
+note-overflow-requires c κs = search needs
+
+note-carry-requires : tie.Need-note-carry-requires
+note-carry-requires c κs = search needs
+
+same-length : tie.Need-same-length
+same-length c = search needs
+
+returns : tie.Need-returns
+unfolding executing perform meaning microSteps microStep monitorSteps monitorStep
+returns c = rw (← (c .before .before .before .before .before .before .before .clear-flags .ensures), ← (c .before .before .before .before .before .before .subtract .ensures .0), ← (c .before .before .before .before .put-word .ensures), ← (c .before .note-overflow .ensures), ← (c .note-carry .ensures))
+
+pub ac-spec : {M : Type 1} → statement M
+ac-spec =
+    tie.close
+    (tie.spec
+    clear-flags-requires
+    subtract-requires
+    put-word-requires
+    note-overflow-requires
+    note-carry-requires
+    same-length
+    returns)

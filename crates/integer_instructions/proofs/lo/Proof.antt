@@ -1,0 +1,49 @@
+use Rattle.definition.specs.Codes.{executing}
+use Rattle.definition.specs.Meaning.{meaning}
+use Rattle.definition.specs.MicroOps.{microStep, microSteps, monitorStep, monitorSteps, perform}
+use borrow.Author.Needs.{needs}
+use Rattle.integer_instructions.proofs.lo.Statement.{statement}
+use Rattle.integer_instructions.proofs.lo.Tie as tie
+
+is-absent-requires : tie.Need-is-absent-requires
+is-absent-requires c κs = search needs
+
+same-length : tie.Need-same-length
+same-length c = search needs
+
+returns : tie.Need-returns
+unfolding executing perform meaning microSteps microStep monitorSteps monitorStep
+returns c = rw (← (c .before .is-absent .ensures), c .if1 .taken)
+
+word-at-requires : tie.Need-word-at-requires
+word-at-requires c κs = search needs
+
+word-at-requires-2 : tie.Need-word-at-requires-2
+word-at-requires-2 c κs = search needs
+
+or24-requires : tie.Need-or24-requires
+or24-requires c κs = search needs
+
+put-word-requires : tie.Need-put-word-requires
+put-word-requires c κs = search needs
+
+same-length-2 : tie.Need-same-length-2
+same-length-2 c = search needs
+
+returns-2 : tie.Need-returns-2
+unfolding executing perform meaning microSteps microStep monitorSteps monitorStep
+returns-2 c = rw (← (c .before .before .before .before .before .before .before .before .before .before .is-absent .ensures), c .before .before .before .before .before .before .before .before .before .if1 .left, ← (c .before .before .before .before .before .before .before .word-at .ensures .0), ← (c .before .before .before .before .before .word-at2 .ensures .0), ← (c .before .before .before .before .or24 .ensures .0), ← (c .before .before .put-word .ensures))
+
+pub lo-spec : {M : Type 1} → statement M
+lo-spec =
+    tie.close
+    (tie.spec
+    is-absent-requires
+    same-length
+    returns
+    word-at-requires
+    word-at-requires-2
+    or24-requires
+    put-word-requires
+    same-length-2
+    returns-2)

@@ -1,0 +1,26 @@
+use Rattle.definition.specs.Codes.{executing}
+use Rattle.definition.specs.Meaning.{meaning}
+use Rattle.definition.specs.MicroOps.{microStep, microSteps, monitorStep, monitorSteps, perform}
+use borrow.Author.Needs.{needs}
+use Rattle.integer_instructions.proofs.ls.Statement.{statement}
+use Rattle.integer_instructions.proofs.ls.Tie as tie
+
+word-at-requires : tie.Need-word-at-requires
+word-at-requires c κs = search needs
+
+logical24-requires : tie.Need-logical24-requires
+logical24-requires c κs = search needs
+
+put-word-requires : tie.Need-put-word-requires
+put-word-requires c κs = search needs
+
+same-length : tie.Need-same-length
+same-length c = search needs
+
+returns : tie.Need-returns
+unfolding executing perform meaning microSteps microStep monitorSteps monitorStep
+returns c = rw (← (c .before .before .before .before .before .word-at .ensures .0), ← (c .before .before .before .before .logical24 .ensures .0), ← (c .before .before .put-word .ensures))
+
+pub ls-spec : {M : Type 1} → statement M
+ls-spec =
+    tie.close (tie.spec word-at-requires logical24-requires put-word-requires same-length returns)

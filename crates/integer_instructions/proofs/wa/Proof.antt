@@ -1,0 +1,61 @@
+use Rattle.definition.specs.Codes.{executing}
+use Rattle.definition.specs.Meaning.{meaning}
+use Rattle.definition.specs.MicroOps.{microStep, microSteps, monitorStep, monitorSteps, perform}
+use borrow.Author.Needs.{needs}
+use Rattle.integer_instructions.proofs.wa.Statement.{statement}
+use Rattle.integer_instructions.proofs.wa.Tie as tie
+
+clear-flags-requires : tie.Need-clear-flags-requires
+clear-flags-requires c κs = search needs
+
+is-absent-requires : tie.Need-is-absent-requires
+is-absent-requires c κs = search needs
+
+same-length : tie.Need-same-length
+same-length c = search needs
+
+returns : tie.Need-returns
+unfolding executing perform meaning microSteps microStep monitorSteps monitorStep
+returns c = rw (← (c .before .before .before .clear-flags .ensures), ← (c .before .is-absent .ensures), c .if1 .taken)
+
+word-at-requires : tie.Need-word-at-requires
+word-at-requires c κs = search needs
+
+word-at-requires-2 : tie.Need-word-at-requires-2
+word-at-requires-2 c κs = search needs
+
+add-requires : tie.Need-add-requires
+add-requires c κs = search needs
+
+put-word-requires : tie.Need-put-word-requires
+put-word-requires c κs = search needs
+
+note-overflow-requires : tie.Need-note-overflow-requires
+note-overflow-requires c κs = search needs
+
+note-carry-requires : tie.Need-note-carry-requires
+note-carry-requires c κs = search needs
+
+same-length-2 : tie.Need-same-length-2
+same-length-2 c = search needs
+
+returns-2 : tie.Need-returns-2
+unfolding executing perform meaning microSteps microStep monitorSteps monitorStep
+returns-2 c = rw (← (c .before .before .before .before .before .before .before .before .before .before .before .before .before .before .clear-flags .ensures), ← (c .before .before .before .before .before .before .before .before .before .before .before .before .is-absent .ensures), c .before .before .before .before .before .before .before .before .before .before .before .if1 .left, ← (c .before .before .before .before .before .before .before .before .before .word-at .ensures .0), ← (c .before .before .before .before .before .before .before .word-at2 .ensures .0), ← (c .before .before .before .before .before .before .add .ensures .0), ← (c .before .before .before .before .put-word .ensures), ← (c .before .note-overflow .ensures), ← (c .note-carry .ensures))
+
+pub wa-spec : {M : Type 1} → statement M
+wa-spec =
+    tie.close
+    (tie.spec
+    clear-flags-requires
+    is-absent-requires
+    same-length
+    returns
+    word-at-requires
+    word-at-requires-2
+    add-requires
+    put-word-requires
+    note-overflow-requires
+    note-carry-requires
+    same-length-2
+    returns-2)

@@ -1,0 +1,27 @@
+use Rattle.definition.specs.Codes.{executing}
+use Rattle.definition.specs.Meaning.{meaning}
+use Rattle.definition.specs.MicroOps.{microStep, microSteps, monitorStep, monitorSteps, perform}
+use borrow.Author.Needs.{needs}
+use Rattle.sequence_instructions.proofs.sn.Statement.{statement}
+use Rattle.sequence_instructions.proofs.sn.Tie as tie
+
+word-at-requires : tie.Need-word-at-requires
+word-at-requires c κs = search needs
+
+is-not-equal-requires : tie.Need-is-not-equal-requires
+is-not-equal-requires c κs = search needs
+
+skip-if-requires : tie.Need-skip-if-requires
+skip-if-requires c κs = search needs
+
+same-length : tie.Need-same-length
+same-length c = search needs
+
+returns : tie.Need-returns
+unfolding executing perform meaning microSteps microStep monitorSteps monitorStep
+returns c = rw (← (c .before .before .word-at .ensures .0), ← (c .before .is-not-equal .ensures), ← (c .skip-if .ensures))
+
+pub sn-spec : {M : Type 1} → statement M
+sn-spec =
+    tie.close
+    (tie.spec word-at-requires is-not-equal-requires skip-if-requires same-length returns)

@@ -1,0 +1,26 @@
+use Rattle.definition.specs.Codes.{executing}
+use Rattle.definition.specs.Meaning.{meaning}
+use Rattle.definition.specs.MicroOps.{microStep, microSteps, monitorStep, monitorSteps, perform}
+use borrow.Author.Needs.{needs}
+use Rattle.sequence_instructions.proofs.so.Statement.{statement}
+use Rattle.sequence_instructions.proofs.so.Tie as tie
+
+word-at-requires : tie.Need-word-at-requires
+word-at-requires c κs = search needs
+
+bits-one-requires : tie.Need-bits-one-requires
+bits-one-requires c κs = search needs
+
+skip-if-requires : tie.Need-skip-if-requires
+skip-if-requires c κs = search needs
+
+same-length : tie.Need-same-length
+same-length c = search needs
+
+returns : tie.Need-returns
+unfolding executing perform meaning microSteps microStep monitorSteps monitorStep
+returns c = rw (← (c .before .before .word-at .ensures .0), ← (c .before .bits-one .ensures), ← (c .skip-if .ensures))
+
+pub so-spec : {M : Type 1} → statement M
+so-spec =
+    tie.close (tie.spec word-at-requires bits-one-requires skip-if-requires same-length returns)

@@ -1,0 +1,41 @@
+use Rattle.definition.specs.Codes.{executing}
+use Rattle.definition.specs.Meaning.{meaning}
+use Rattle.definition.specs.MicroOps.{microStep, microSteps, monitorStep, monitorSteps, perform}
+use borrow.Author.Needs.{needs}
+use Rattle.sequence_instructions.proofs.sp.Statement.{statement}
+use Rattle.sequence_instructions.proofs.sp.Tie as tie
+
+is-absent-requires : tie.Need-is-absent-requires
+is-absent-requires c κs = search needs
+
+same-length : tie.Need-same-length
+same-length c = search needs
+
+returns : tie.Need-returns
+unfolding executing perform meaning microSteps microStep monitorSteps monitorStep
+returns c = rw (← (c .before .is-absent .ensures), c .if1 .taken)
+
+is-forbidden-requires : tie.Need-is-forbidden-requires
+is-forbidden-requires c κs = search needs
+
+skip-if-requires : tie.Need-skip-if-requires
+skip-if-requires c κs = search needs
+
+same-length-2 : tie.Need-same-length-2
+same-length-2 c = search needs
+
+returns-2 : tie.Need-returns-2
+unfolding executing perform meaning microSteps microStep monitorSteps monitorStep
+returns-2 c = rw (← (c .before .before .before .before .is-absent .ensures), c .before .before .before .if1 .left, ← (c .before .is-forbidden .ensures), ← (c .skip-if .ensures))
+
+pub sp-spec : {M : Type 1} → statement M
+sp-spec =
+    tie.close
+    (tie.spec
+    is-absent-requires
+    same-length
+    returns
+    is-forbidden-requires
+    skip-if-requires
+    same-length-2
+    returns-2)

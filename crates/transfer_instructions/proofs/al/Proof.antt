@@ -1,0 +1,19 @@
+use Rattle.definition.specs.Codes.{executing}
+use Rattle.definition.specs.Meaning.{meaning}
+use Rattle.definition.specs.MicroOps.{microStep, microSteps, monitorStep, monitorSteps, perform}
+use borrow.Author.Needs.{needs}
+use Rattle.transfer_instructions.proofs.al.Statement.{statement}
+use Rattle.transfer_instructions.proofs.al.Tie as tie
+
+put-word-requires : tie.Need-put-word-requires
+put-word-requires c κs = search needs
+
+same-length : tie.Need-same-length
+same-length c = search needs
+
+returns : tie.Need-returns
+unfolding executing perform meaning microSteps microStep monitorSteps monitorStep
+returns c = rw (← (c .before .before .put-word .ensures))
+
+pub al-spec : {M : Type 1} → statement M
+al-spec = tie.close (tie.spec put-word-requires same-length returns)

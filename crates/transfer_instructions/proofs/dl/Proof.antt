@@ -1,0 +1,57 @@
+use Rattle.definition.specs.Codes.{executing}
+use Rattle.definition.specs.Meaning.{meaning}
+use Rattle.definition.specs.MicroOps.{microStep, microSteps, monitorStep, monitorSteps, perform}
+use borrow.Author.Needs.{needs}
+use Rattle.transfer_instructions.proofs.dl.Statement.{statement}
+use Rattle.transfer_instructions.proofs.dl.Tie as tie
+
+is-absent-requires : tie.Need-is-absent-requires
+is-absent-requires c κs = search needs
+
+same-length : tie.Need-same-length
+same-length c = search needs
+
+returns : tie.Need-returns
+unfolding executing perform meaning microSteps microStep monitorSteps monitorStep
+returns c = rw (← (c .before .is-absent .ensures), c .if1 .taken)
+
+word-at-requires : tie.Need-word-at-requires
+word-at-requires c κs = search needs
+
+put-word-requires : tie.Need-put-word-requires
+put-word-requires c κs = search needs
+
+first-word-requires : tie.Need-first-word-requires
+first-word-requires c κs = search needs
+
+word-at-requires-2 : tie.Need-word-at-requires-2
+word-at-requires-2 c κs = search needs
+
+previous-register-requires : tie.Need-previous-register-requires
+previous-register-requires c κs = search needs
+
+put-word-requires-2 : tie.Need-put-word-requires-2
+put-word-requires-2 c κs = search needs
+
+same-length-2 : tie.Need-same-length-2
+same-length-2 c = search needs
+
+returns-2 : tie.Need-returns-2
+unfolding executing perform meaning microSteps microStep monitorSteps monitorStep
+returns-2 c = rw (← (c .before .before .before .before .before .before .before .before .before .before .before .before .before .before .before .is-absent .ensures), c .before .before .before .before .before .before .before .before .before .before .before .before .before .before .if1 .left, ← (c .before .before .before .before .before .before .before .before .before .before .before .before .word-at .ensures .0), ← (c .before .before .before .before .before .before .before .before .before .before .put-word .ensures), ← (c .before .before .before .before .before .before .before .first-word .ensures), ← (c .before .before .before .before .before .word-at2 .ensures .0), ← (c .before .before .before .before .previous-register .ensures), ← (c .before .before .put-word2 .ensures))
+
+pub dl-spec : {M : Type 1} → statement M
+dl-spec =
+    tie.close
+    (tie.spec
+    is-absent-requires
+    same-length
+    returns
+    word-at-requires
+    put-word-requires
+    first-word-requires
+    word-at-requires-2
+    previous-register-requires
+    put-word-requires-2
+    same-length-2
+    returns-2)

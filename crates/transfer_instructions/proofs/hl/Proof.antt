@@ -1,0 +1,53 @@
+use Rattle.definition.specs.Codes.{executing}
+use Rattle.definition.specs.Meaning.{meaning}
+use Rattle.definition.specs.MicroOps.{microStep, microSteps, monitorStep, monitorSteps, perform}
+use borrow.Author.Needs.{needs}
+use Rattle.transfer_instructions.proofs.hl.Statement.{statement}
+use Rattle.transfer_instructions.proofs.hl.Tie as tie
+
+is-absent-requires : tie.Need-is-absent-requires
+is-absent-requires c κs = search needs
+
+same-length : tie.Need-same-length
+same-length c = search needs
+
+returns : tie.Need-returns
+unfolding executing perform meaning microSteps microStep monitorSteps monitorStep
+returns c = rw (← (c .before .is-absent .ensures), c .if1 .taken)
+
+word-at-requires : tie.Need-word-at-requires
+word-at-requires c κs = search needs
+
+byte-at-requires : tie.Need-byte-at-requires
+byte-at-requires c κs = search needs
+
+mul-put-word : tie.Need-mul-put-word
+mul-put-word c = search needs
+
+add-put-word : tie.Need-add-put-word
+add-put-word c = search needs
+
+put-word-requires : tie.Need-put-word-requires
+put-word-requires c κs = search needs
+
+same-length-2 : tie.Need-same-length-2
+same-length-2 c = search needs
+
+returns-2 : tie.Need-returns-2
+unfolding executing perform meaning microSteps microStep monitorSteps monitorStep
+returns-2 c = rw (← (c .before .before .before .before .before .before .before .before .before .is-absent .ensures), c .before .before .before .before .before .before .before .before .if1 .left, ← (c .before .before .before .before .before .before .word-at .ensures .0), ← (c .before .before .before .before .byte-at .ensures .0), ← (c .before .before .put-word .ensures))
+
+pub hl-spec : {M : Type 1} → statement M
+hl-spec =
+    tie.close
+    (tie.spec
+    is-absent-requires
+    same-length
+    returns
+    word-at-requires
+    byte-at-requires
+    mul-put-word
+    add-put-word
+    put-word-requires
+    same-length-2
+    returns-2)
