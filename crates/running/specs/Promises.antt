@@ -28,9 +28,13 @@ keptFrom (Ended Reset) = 8
 keptFrom (Ended (Interrupted k)) = 12
 keptFrom (Ended Spent) = 8
 
--- (a) a run begun in task mode keeps the protected part, wherever it is cut, save words 8 and 10 at an entry
+-- the run x begun at m in task mode keeps the protected part, save words 8 and 10 at an entry
+abbrev pub KeepsProtected : Machine → Ran Machine → Type 0
+KeepsProtected m x = InTaskMode m → EqualProtected (keptFrom (x .answer)) m (x .machine)
+
+-- (a) isolation, wherever the run is cut
 abbrev pub Isolation : Type 0
-Isolation = (lines budget : ℕ) (m : Machine) → InTaskMode m → EqualProtected (keptFrom (runMachine lines budget m .answer)) m (runMachine lines budget m .machine)
+Isolation = (lines budget : ℕ) (m : Machine) → KeepsProtected m (runMachine lines budget m)
 
 -- two machines after an entry: protected parts equal save words 8 and 10, monitor mode, interrupts disabled, at the address in word 12
 pub record EqualEntries (m n : Machine) : Type 0 where
