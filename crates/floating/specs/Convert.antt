@@ -24,31 +24,31 @@ unfoldable pub cfEnd : ℕ → ℕ → Converted
 cfEnd word af = cond (eqb (sign 39 af) (bit 37 af)) (record { word = af / 2 ^ 14 % 2 ^ 24; over = 0 }) (record { word = word; over = 1 })
 
 -- if SB < 0 and AF <> 0 then Integer Overflow; if SB >= 64 then AF := 0; if 0 < SB and SB < 64 then AF(0:37) := AF(-1:36), SB times; rounding; .. b is `biasedSB` of SB.
-unfoldable pub cfWith : ℕ → ℕ → ℕ → Converted
-cfWith b word af =
+unfoldable pub cfByPlaces : ℕ → ℕ → ℕ → Converted
+cfByPlaces b word af =
     cond (ltb b (2 ^ 23))
     (cond (eqb af 0) (cfEnd word (cfRounded af)) (record { word = word; over = 1 }))
     (cond (leb (2 ^ 23 + 64) b) (cfEnd word (cfRounded 0)) (cfEnd word (cfRounded (iter (asr 39) (b - 2 ^ 23) af))))
 
 -- CF of Wpre, W and the effective address: AF(-1:35) := signed Wfrac; AF(36:37) := 0; ..
 unfoldable pub cf : ℕ → ℕ → ℕ → Converted
-cf pre word sb = cfWith (biasedSB (cfPlaces (exponent word) sb)) word (registerFraction (fraction pre word))
+cf pre word sb = cfByPlaces (biasedSB (cfPlaces (exponent word) sb)) word (registerFraction (fraction pre word))
 
 -- 1
 cf-1 : cf 4194304 1 0 ≡ record { word = 1; over = 0 }
-unfolding cf cfWith cfEnd iter
+unfolding cf cfByPlaces cfEnd iter
 cf-1 = refl
 
 -- -0.5 is rounded to 0, 0.5 to 1
 cf-minus-half : cf 12582912 0 0 ≡ record { word = 0; over = 0 }
-unfolding cf cfWith cfEnd iter
+unfolding cf cfByPlaces cfEnd iter
 cf-minus-half = refl
 
 cf-half : cf 4194304 0 0 ≡ record { word = 1; over = 0 }
-unfolding cf cfWith cfEnd iter
+unfolding cf cfByPlaces cfEnd iter
 cf-half = refl
 
 -- 2 ** 23 is beyond 24 bits: W is kept
 cf-over : cf 4194304 24 0 ≡ record { word = 24; over = 1 }
-unfolding cf cfWith cfEnd iter
+unfolding cf cfByPlaces cfEnd iter
 cf-over = refl

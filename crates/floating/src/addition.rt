@@ -2,7 +2,7 @@
 ghost use mathlib.Core.Path.{_≡_};
 ghost use Prim.Native.Nat.{_+_, _-_, _*_, _/_, _%_, _^_, _<_};
 ghost use Rattle.registers.specs.Reg.{asr, iter};
-ghost use Rattle.floating.specs.Add.{faSum, faSmall, faAlign, faWith, addFloating};
+ghost use Rattle.floating.specs.Add.{faSum, faNegligible, faAlign, faByDifference, addFloating};
 use super::Operands;
 use super::accumulator;
 use rounding::Pair;
@@ -44,10 +44,10 @@ fn sum(add: bool, ex: u32, wexp: u32, af: u64, sf: u64) -> Pair
     )
 }
 
-// SC <= -38.
-fn small(add: bool, ex: u32, o: Operands) -> Pair
+// SC <= -38: the register operand does not count.
+fn negligible(add: bool, ex: u32, o: Operands) -> Pair
     requires { ⌜ (o .sf < 2 ^ 38) × (o .sbexp < 2 ^ 12) ⌝ }
-    ensures { λ r. ⌜ r ≡ faSmall add ex o ⌝ }
+    ensures { λ r. ⌜ r ≡ faNegligible add ex o ⌝ }
 {
     if add {
         return rounding::precise_store(
@@ -80,15 +80,15 @@ fn align(b: u32, add: bool, ex: u32, o: Operands) -> Pair
     sum(add, ex, o.wexp, o.af, o.sf)
 }
 
-fn with(b: u32, add: bool, ex: u32, o: Operands) -> Pair
+fn by_difference(b: u32, add: bool, ex: u32, o: Operands) -> Pair
     requires { ⌜ (o .af < 2 ^ 39) × (o .sf < 2 ^ 38) × (o .wexp < 2 ^ 12) × (o .sbexp < 2 ^ 12) ⌝ }
-    ensures { λ r. ⌜ r ≡ faWith b add ex o ⌝ }
+    ensures { λ r. ⌜ r ≡ faByDifference b add ex o ⌝ }
 {
     if b >= 4134 {
         return rounding::precise_store(ex, o.af, accumulator::signed_exponent(o.wexp), 0);
     }
     if b <= 4058 {
-        return small(add, ex, o);
+        return negligible(add, ex, o);
     }
     align(b, add, ex, o)
 }
@@ -100,5 +100,5 @@ pub fn add_floating(add: bool, ex: u32, o: Operands) -> Pair
     let w = accumulator::signed_exponent(o.wexp);
     let s = accumulator::signed_exponent(o.sbexp);
     let d = (w + (8192 - s)) % 8192;
-    with((d + 4096) % 8192, add, ex, o)
+    by_difference((d + 4096) % 8192, add, ex, o)
 }

@@ -2,7 +2,7 @@
 ghost use mathlib.Core.Path.{_≡_};
 ghost use Prim.Native.Nat.{_+_, _-_, _*_, _/_, _%_, _^_, _<_};
 ghost use Rattle.floating.specs.Operands.{fraction, registerFraction};
-ghost use Rattle.floating.specs.Convert.{cfRounded, cfEnd, cfWith, cf};
+ghost use Rattle.floating.specs.Convert.{cfRounded, cfEnd, cfByPlaces, cf};
 use super::Converted;
 use super::accumulator;
 
@@ -26,9 +26,9 @@ fn rounded(word: u32, af: u64) -> Converted
 }
 
 // b is SB + 2 ** 23.
-fn with(b: u32, word: u32, af: u64) -> Converted
+fn by_places(b: u32, word: u32, af: u64) -> Converted
     requires { ⌜ af < 2 ^ 39 ⌝ }
-    ensures { λ r. ⌜ r ≡ cfWith b word af ⌝ }
+    ensures { λ r. ⌜ r ≡ cfByPlaces b word af ⌝ }
 {
     if b < 8388608 {
         if af == 0 {
@@ -60,5 +60,5 @@ pub fn convert(pre: u32, word: u32, sb: u32) -> Converted
 {
     let e = registers::signed24(word % 4096);
     let n = (23 + (16777216 - sb) + (16777216 - e)) % 16777216;
-    with((n + 8388608) % 16777216, word, register_fraction(pre, word))
+    by_places((n + 8388608) % 16777216, word, register_fraction(pre, word))
 }

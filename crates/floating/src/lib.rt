@@ -8,11 +8,11 @@ ghost use Rattle.floating.specs.Divide.{fd};
 ghost use Rattle.floating.specs.Convert.{cf};
 use rounding::Pair;
 
-pub mod accumulator;
-pub mod addition;
-pub mod conversion;
-pub mod division;
-pub mod multiplication;
+mod accumulator;
+mod addition;
+mod conversion;
+mod division;
+mod multiplication;
 
 // What Fetch Floating Operands leaves: the fractions in AF and SF, and the exponents.
 pub struct Operands {

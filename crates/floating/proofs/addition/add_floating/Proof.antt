@@ -15,11 +15,11 @@ sub-d c = search needs
 add-d : tie.Need-add-d
 add-d c = search needs
 
-add-with : tie.Need-add-with
-add-with c = search needs
+add-by-difference : tie.Need-add-by-difference
+add-by-difference c = search needs
 
-with-requires : tie.Need-with-requires
-with-requires c κs = search needs
+by-difference-requires : tie.Need-by-difference-requires
+by-difference-requires c κs = search needs
 
 returns : tie.Need-returns
 unfolding addFloating
@@ -33,6 +33,6 @@ add-floating-spec =
     signed-exponent-requires-2
     sub-d
     add-d
-    add-with
-    with-requires
+    add-by-difference
+    by-difference-requires
     returns)

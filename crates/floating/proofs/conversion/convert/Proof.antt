@@ -18,14 +18,14 @@ sub-n-2 c = search needs
 add-n-2 : tie.Need-add-n-2
 add-n-2 c = search needs
 
-add-with : tie.Need-add-with
-add-with c = search needs
+add-by-places : tie.Need-add-by-places
+add-by-places c = search needs
 
 register-fraction-requires : tie.Need-register-fraction-requires
 register-fraction-requires c κs = search needs
 
-with-requires : tie.Need-with-requires
-with-requires c κs = search needs
+by-places-requires : tie.Need-by-places-requires
+by-places-requires c κs = search needs
 
 returns : tie.Need-returns
 unfolding cf
@@ -40,7 +40,7 @@ convert-spec =
     add-n
     sub-n-2
     add-n-2
-    add-with
+    add-by-places
     register-fraction-requires
-    with-requires
+    by-places-requires
     returns)

@@ -1,26 +1,26 @@
 use mathlib.Core.Path.{refl}
-use Rattle.floating.specs.Convert.{cfWith}
+use Rattle.floating.specs.Convert.{cfByPlaces}
 use borrow.Author.Tests.{eq-eqb, ne-eqb, lt-ltb, le-ltb, le-leb, lt-leb}
 use borrow.Author.Needs.{needs}
-use Rattle.floating.proofs.conversion.with.Statement.{statement}
-use Rattle.floating.proofs.conversion.with.Tie as tie
+use Rattle.floating.proofs.conversion.by_places.Statement.{statement}
+use Rattle.floating.proofs.conversion.by_places.Tie as tie
 
 rounded-requires : tie.Need-rounded-requires
 rounded-requires c κs = search needs
 
 returns : tie.Need-returns
-unfolding cfWith
+unfolding cfByPlaces
 returns c = rw (lt-ltb _ _ (c .before .before .if1 .taken), eq-eqb _ _ (c .before .if2 .taken)) (cc)
 
 returns-2 : tie.Need-returns-2
-unfolding cfWith
+unfolding cfByPlaces
 returns-2 c = rw (lt-ltb _ _ (c .before .if1 .taken), ne-eqb _ _ (c .if2 .left)) refl
 
 rounded-requires-2 : tie.Need-rounded-requires-2
 rounded-requires-2 c κs = search needs
 
 returns-3 : tie.Need-returns-3
-unfolding cfWith
+unfolding cfByPlaces
 returns-3 c = rw (le-ltb _ _ (c .before .before .if1 .left), le-leb _ _ (c .before .if3 .taken)) (cc)
 
 shift-af-requires : tie.Need-shift-af-requires
@@ -30,11 +30,11 @@ rounded-requires-3 : tie.Need-rounded-requires-3
 rounded-requires-3 c κs = search needs
 
 returns-4 : tie.Need-returns-4
-unfolding cfWith
+unfolding cfByPlaces
 returns-4 c = rw (le-ltb _ _ (c .before .before .before .if1 .left), lt-leb _ _ (c .before .before .if3 .left)) (cc)
 
-pub with-spec : {M : Type 1} → statement M
-with-spec =
+pub by-places-spec : {M : Type 1} → statement M
+by-places-spec =
     tie.close
     (tie.spec
     rounded-requires

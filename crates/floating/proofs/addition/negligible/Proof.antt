@@ -1,7 +1,7 @@
-use Rattle.floating.specs.Add.{faSmall}
+use Rattle.floating.specs.Add.{faNegligible}
 use borrow.Author.Needs.{needs}
-use Rattle.floating.proofs.addition.small.Statement.{statement}
-use Rattle.floating.proofs.addition.small.Tie as tie
+use Rattle.floating.proofs.addition.negligible.Statement.{statement}
+use Rattle.floating.proofs.addition.negligible.Tie as tie
 
 signed-sf-requires : tie.Need-signed-sf-requires
 signed-sf-requires c κs = search needs
@@ -13,18 +13,18 @@ precise-store-requires : tie.Need-precise-store-requires
 precise-store-requires c κs = search needs
 
 returns : tie.Need-returns
-unfolding faSmall
+unfolding faNegligible
 returns c = rw (c .before .before .before .if1 .taken) (cc)
 
 sum-requires : tie.Need-sum-requires
 sum-requires c κs = search needs
 
 returns-2 : tie.Need-returns-2
-unfolding faSmall
+unfolding faNegligible
 returns-2 c = rw (c .before .if1 .left) (cc)
 
-pub small-spec : {M : Type 1} → statement M
-small-spec =
+pub negligible-spec : {M : Type 1} → statement M
+negligible-spec =
     tie.close
     (tie.spec
     signed-sf-requires
