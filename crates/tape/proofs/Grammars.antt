@@ -1,0 +1,193 @@
+-- The judge and the grammar agree. Assumes nothing.
+use Prim.Native.Nat.{ℕ, _+_, _-_, _*_, _%_, _≤_, _<_}
+use mathlib.Core.Path.{_≡_, refl, sym, ap, subst, _∙_}
+use mathlib.Core.Bool.{Bool, true, false, cond}
+use mathlib.Core.List.{List, [], _∷_, _++_}
+use native.Mathlib.Omega.{arith}
+use native.Mathlib.Decide.{ℕ-discrete}
+use borrow.Author.Tests.{le-leb, eq-eqb, ne-eqb, leb-true, eqb-true, ltb-false}
+use lib.ListN.{length, take, drop, getD, length-append, length-take, take-append-drop, List·getD-append}
+use lib.Seq.{take-append-seam, drop-append-add, drop-append-seam, drop-drop, getD-take}
+use lib.Dec.{leb, ltb, eqb}
+use Rattle.machine.specs.declared.Verdict.the-variants.{Accepted}
+use Rattle.tape.specs.Layout.{numberAt, lengthOf, kindOf, payloadOf, restOf, firstCell, cellCount, flagsOf, lastByte, controlOf}
+use Rattle.tape.specs.Judge.{kindKnown, inOrder, lengthFits, judgeBlock, controlGood, judgeControl, judgePayload}
+use Rattle.tape.specs.Grammar.{Header, Block, ControlRecord, Records, block, remark, control}
+use Rattle.tape.proofs.Records.{length-payload}
+use Rattle.tape.proofs.Judged.{Good, Judged, last, more, both, block-length, control-length, end-length, remark-length, block-payload, control-payload, no-end}
+
+-- ---- from the judge to the grammar
+
+parts : (t : List ℕ) → t ≡ take 6 t ++ (payloadOf t ++ restOf t)
+unfolding payloadOf restOf
+parts t =
+    sym (take-append-drop 6 t)
+    ∙ ap (_++_ (take 6 t)) (sym (take-append-drop (lengthOf t) (drop 6 t)) ∙ ap (_++_ (take (lengthOf t) (drop 6 t))) (drop-drop (lengthOf t) 6 t))
+
+front : (t : List ℕ) (i : ℕ) → i < 6 → getD (take 6 t) i 0 ≡ getD t i 0
+front t i h = getD-take 6 t i 0 h
+
+header-size : (t : List ℕ) → numberAt (take 6 t) 0 ≡ lengthOf t
+unfolding lengthOf
+header-size t = rw (front t 0 (omega arith), front t 1 (omega arith), front t 2 (omega arith), front t 3 (omega arith))
+
+header-kind : (t : List ℕ) → getD (take 6 t) 4 0 + 256 * getD (take 6 t) 5 0 ≡ kindOf t
+unfolding kindOf
+header-kind t = rw (front t 4 (omega arith), front t 5 (omega arith))
+
+header-of : {n : ℕ} {after : Bool} {t : List ℕ} (k : ℕ) → Good n after t → kindOf t ≡ k → Header k (length (payloadOf t)) (take 6 t)
+header-of {n} {after} {t} k g e =
+    let w = g .whole in
+    record {
+      bytes = simp length-take (omega arith);
+      size = header-size t ∙ sym (length-payload t w);
+      kind = header-kind t ∙ e;
+    }
+
+block-of : {n : ℕ} {after : Bool} {t : List ℕ} → Good n after t → kindOf t ≡ 1 → Block n (payloadOf t)
+block-of {n} {after} {t} g e =
+    let l = block-length (lengthOf t) (rw e at (g .size)) in
+    let p = block-payload n (payloadOf t) (rw e at (g .payload)) in
+    let s = length-payload t (g .whole) in
+    record { fours = rw s (l .0); some = rw s (l .1); place = p .0; cells = p .1 }
+
+control-of : {n : ℕ} {after : Bool} {t : List ℕ} → Good n after t → kindOf t ≡ 2 → ControlRecord (payloadOf t)
+unfolding controlGood
+control-of {n} {after} {t} g e =
+    let c = control-payload n (payloadOf t) (rw e at (g .payload)) in
+    let a = both (leb (flagsOf (payloadOf t)) 7) _ c in
+    let b = both (eqb (lastByte (payloadOf t)) 0) _ (a .1) in
+    record {
+      bytes = length-payload t (g .whole) ∙ control-length (lengthOf t) (rw e at (g .size));
+      flags = leb-true (flagsOf (payloadOf t)) 7 (a .0);
+      zero = eqb-true (lastByte (payloadOf t)) 0 (b .0);
+      fields = b .1;
+    }
+
+-- only the end stands after the control record
+end-of : {n : ℕ} {after : Bool} {t : List ℕ} → Judged n after t → after ≡ true → Header 3 0 t
+unfolding lengthOf kindOf inOrder
+end-of {n} {after} {t} (last g k h) a =
+    let l = end-length (lengthOf t) (rw k at (g .size)) in
+    let w = g .whole in
+    record { bytes = omega arith; size = l; kind = k }
+end-of {n} {after} {t} (more g k j) a = absurd (k (eqb-true (kindOf t) 3 (rw a at (g .order))))
+
+second : (a b : Bool) → cond a false b ≡ true → (a ≡ false) × (b ≡ true)
+second true b e = let no : ⊥ = (let z : _≡_ {A = ℕ} 0 1 = cc in omega arith) in absurd no
+second false b e = (refl, e)
+
+kind-four : (k : ℕ) → kindKnown k ≡ true → (k ≡ 1 → ⊥) → (k ≡ 2 → ⊥) → (k ≡ 3 → ⊥) → k ≡ 4
+unfolding kindKnown
+kind-four k e a b c =
+    let h = second (ltb k 1) (leb k 4) e in
+    let l = ltb-false k 1 (h .0) in
+    let u = leb-true k 4 (h .1) in
+    omega arith
+
+pub grammar : {n : ℕ} {after : Bool} {t : List ℕ} → Judged n after t → after ≡ false → Records n t
+grammar {n} {after} {t} (last g k h) a = absurd (no-end n after t g k a)
+grammar {n} {after} {t} (more g k j) a = subst (Records n) (sym (parts t)) (at (ℕ-discrete (kindOf t) 1) (ℕ-discrete (kindOf t) 2) (grammar j))
+  where
+    at : Dec (kindOf t ≡ 1) → Dec (kindOf t ≡ 2) → (eqb (kindOf t) 2 ≡ false → Records n (restOf t)) → Records n (take 6 t ++ (payloadOf t ++ restOf t))
+    at (yes e) d ih =
+        let o : kindOf t ≡ 2 → ⊥ = λ z. omega arith in
+        block (take 6 t) (payloadOf t) (restOf t) (header-of 1 g e) (block-of g e) (ih (ne-eqb (kindOf t) 2 o))
+    at (no a) (yes e) ih = control (take 6 t) (payloadOf t) (restOf t) (header-of 2 g e) (control-of g e) (end-of j (eq-eqb (kindOf t) 2 e))
+    at (no a) (no b) ih =
+        let e = kind-four (kindOf t) (g .known) a b k in
+        let l = remark-length (lengthOf t) (rw e at (g .size)) in
+        remark (take 6 t) (payloadOf t) (restOf t) (header-of 4 g e) (rw (length-payload t (g .whole)) l) (ih (ne-eqb (kindOf t) 2 b))
+
+-- ---- from the grammar to the judge
+
+-- how the judge reads a record and what is left
+record Reads (k : ℕ) (p t w : List ℕ) : Type 0 where
+  size : lengthOf w ≡ length p
+  kind : kindOf w ≡ k
+  payload : payloadOf w ≡ p
+  rest : restOf w ≡ t
+  whole : 6 + lengthOf w ≤ length w
+
+module _ (h x : List ℕ) (b : length h ≡ 6) where
+  byte : (i : ℕ) → i < 6 → getD (h ++ x) i 0 ≡ getD h i 0
+  byte i l = List·getD-append h x 0 i (omega (arith, b))
+
+  size-is : lengthOf (h ++ x) ≡ numberAt h 0
+  unfolding lengthOf
+  size-is = rw (byte 0 (omega arith), byte 1 (omega arith), byte 2 (omega arith), byte 3 (omega arith))
+
+  kind-is : kindOf (h ++ x) ≡ getD h 4 0 + 256 * getD h 5 0
+  unfolding kindOf
+  kind-is = rw (byte 4 (omega arith), byte 5 (omega arith))
+
+  payload-at : drop 6 (h ++ x) ≡ x
+  payload-at = rw b at (drop-append-seam h x)
+
+reads : (h p t : List ℕ) (k : ℕ) → Header k (length p) h → Reads k p t (h ++ (p ++ t))
+unfolding payloadOf restOf
+reads h p t k d =
+    let b = d .bytes in
+    let s = size-is h (p ++ t) b ∙ d .size in
+    record {
+      size = s;
+      kind = kind-is h (p ++ t) b ∙ d .kind;
+      payload = rw (s, payload-at h (p ++ t) b) (take-append-seam p t);
+      rest = rw s (sym (drop-drop (length p) 6 (h ++ (p ++ t))) ∙ ap (drop (length p)) (payload-at h (p ++ t) b) ∙ drop-append-seam p t);
+      whole = simp length-append (omega arith);
+    }
+
+good-of : (n k : ℕ) (after : Bool) (p t w : List ℕ) → Reads k p t w → kindKnown k ≡ true → inOrder after k ≡ true → lengthFits k (length p) ≡ true
+    → judgePayload n k p ≡ Accepted → Good n after w
+good-of n k after p t w r a b c d =
+    record {
+      known = rw (r .kind) a;
+      order = rw (r .kind) b;
+      size = rw (r .kind, r .size) c;
+      whole = r .whole;
+      payload = rw (r .kind, r .payload) d;
+    }
+
+good-block : (n : ℕ) (p t w : List ℕ) → Reads 1 p t w → Block n p → Good n false w
+unfolding kindKnown inOrder lengthFits judgePayload judgeBlock
+good-block n p t w r b =
+    good-of n 1 false p t w r refl refl
+    (rw (eq-eqb (length p % 4) 0 (b .fours), le-leb 8 (length p) (b .some)))
+    (rw (le-leb (firstCell p + cellCount p) n (b .place), b .cells))
+
+good-remark : (n : ℕ) (p t w : List ℕ) → Reads 4 p t w → length p ≤ 255 → Good n false w
+unfolding kindKnown inOrder lengthFits judgePayload
+good-remark n p t w r h = good-of n 4 false p t w r refl refl (le-leb (length p) 255 h) refl
+
+good-control : (n : ℕ) (p t w : List ℕ) → Reads 2 p t w → ControlRecord p → Good n false w
+unfolding kindKnown inOrder lengthFits judgePayload judgeControl controlGood
+good-control n p t w r c =
+    good-of n 2 false p t w r refl refl (eq-eqb (length p) 20 (c .bytes))
+    (rw (le-leb (flagsOf p) 7 (c .flags), eq-eqb (lastByte p) 0 (c .zero), c .fields))
+
+judged-end : (n : ℕ) (e : List ℕ) → Header 3 0 e → Judged n true e
+unfolding lengthOf kindOf kindKnown inOrder lengthFits judgePayload
+judged-end n e d =
+    let b = d .bytes in
+    let s = d .size in
+    last {after = true} {t = e}
+    (record {
+      known = rw (d .kind);
+      order = rw (d .kind);
+      size = rw (d .kind, s);
+      whole = omega arith;
+      payload = rw (d .kind);
+    })
+    (d .kind)
+    (omega arith)
+
+pub judged-of : {n : ℕ} {w : List ℕ} → Records n w → Judged n false w
+judged-of {n} (block h p t d b r) =
+    let k = reads h p t 1 d in
+    more (good-block n p t (h ++ (p ++ t)) k b) (λ z. omega (arith, k .kind)) (rw (k .kind, k .rest) (judged-of r))
+judged-of {n} (remark h p t d l r) =
+    let k = reads h p t 4 d in
+    more (good-remark n p t (h ++ (p ++ t)) k l) (λ z. omega (arith, k .kind)) (rw (k .kind, k .rest) (judged-of r))
+judged-of {n} (control h p e d c x) =
+    let k = reads h p e 2 d in
+    more (good-control n p e (h ++ (p ++ e)) k c) (λ z. omega (arith, k .kind)) (rw (k .kind, k .rest) (judged-end n e x))

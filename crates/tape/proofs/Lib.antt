@@ -1,0 +1,8 @@
+pub mod Records
+pub mod Judged
+pub mod Cells
+pub mod Hunted
+pub mod Loaded
+pub mod Tapes
+pub mod Grammars
+pub mod Claims

@@ -1,0 +1,39 @@
+-- A tape for a store of n cells, built from its records: blocks and remarks, one control record, the end. The judge is not named here.
+-- Assumes nothing.
+use Prim.Native.Nat.{ℕ, _+_, _*_, _%_, _≤_}
+use mathlib.Core.Path.{_≡_}
+use mathlib.Core.Bool.{true}
+use mathlib.Core.List.{List, _++_}
+use lib.ListN.{length, getD}
+use Rattle.acceptance.specs.Accept.{cellsFit, controlFits}
+use Rattle.tape.specs.Layout.{numberAt, firstCell, cellCount, blockCells, flagsOf, lastByte, controlOf}
+
+-- a record's header: the payload's length l (4 bytes), the kind k (2 bytes)
+pub record Header (k l : ℕ) (h : List ℕ) : Type 0 where
+  pub bytes : length h ≡ 6
+  pub size : numberAt h 0 ≡ l
+  pub kind : getD h 4 0 + 256 * getD h 5 0 ≡ k
+
+-- a block's payload: an index and one or more cells, all within the store, none of 134,217,728 or more
+pub record Block (n : ℕ) (p : List ℕ) : Type 0 where
+  pub fours : length p % 4 ≡ 0
+  pub some : 8 ≤ length p
+  pub place : firstCell p + cellCount p ≤ n
+  pub cells : cellsFit (blockCells p) ≡ true
+
+-- a control record's payload: fields within their widths and rules, flags of three bits, a zero byte
+pub record ControlRecord (p : List ℕ) : Type 0 where
+  pub bytes : length p ≡ 20
+  pub flags : flagsOf p ≤ 7
+  pub zero : lastByte p ≡ 0
+  pub fields : controlFits (controlOf p) ≡ true
+
+-- from a record on
+pub data Records (n : ℕ) : List ℕ → Type 0 where
+  block : (h p t : List ℕ) → Header 1 (length p) h → Block n p → Records n t → Records n (h ++ (p ++ t))
+  remark : (h p t : List ℕ) → Header 4 (length p) h → length p ≤ 255 → Records n t → Records n (h ++ (p ++ t))
+  control : (h p e : List ℕ) → Header 2 (length p) h → ControlRecord p → Header 3 0 e → Records n (h ++ (p ++ e))
+
+pub record Tape (n : ℕ) (t : List ℕ) : Type 0 where
+  pub size : length t ≤ 65536
+  pub records : Records n t

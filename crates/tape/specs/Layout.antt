@@ -1,0 +1,77 @@
+-- The layout of a load tape (document 01, "Load tape"): bytes, records, and the payloads of blocks and control records.
+-- A record is spoken of by the tape from its header on. A byte that is not there reads as 0.
+-- Assumes nothing.
+use Prim.Native.Nat.{ℕ, zero, suc, _+_, _-_, _*_, _/_, _%_}
+use mathlib.Core.Bool.{cond}
+use mathlib.Core.List.{List, [], _∷_}
+use lib.ListN.{length, take, drop, getD}
+use lib.Dec.{eqb, ltb}
+use Rattle.machine.specs.declared.Control.{Control}
+
+-- all numbers little-endian: the four bytes from i on
+abbrev pub numberAt : List ℕ → ℕ → ℕ
+numberAt s i = getD s i 0 + 256 * getD s (i + 1) 0 + 65536 * getD s (i + 2) 0 + 16777216 * getD s (i + 3) 0
+
+-- ---- a record: payload length (4 bytes), kind (2 bytes), payload
+unfoldable pub lengthOf : List ℕ → ℕ
+lengthOf t = numberAt t 0
+
+unfoldable pub kindOf : List ℕ → ℕ
+kindOf t = getD t 4 0 + 256 * getD t 5 0
+
+unfoldable pub payloadOf : List ℕ → List ℕ
+payloadOf t = take (lengthOf t) (drop 6 t)
+
+-- the tape after the record
+unfoldable pub restOf : List ℕ → List ℕ
+restOf t = drop (6 + lengthOf t) t
+
+-- ---- a tape is a row of records: the tape from each header on, as long as six bytes are there
+unfoldable pub recordsWithin : ℕ → List ℕ → List (List ℕ)
+recordsWithin zero t = []
+recordsWithin (suc f) t = let rest = recordsWithin f (restOf t) in cond (ltb (length t) 6) [] (t ∷ rest)
+
+-- each record takes six bytes at least, so there are fewer than the tape has bytes
+unfoldable pub recordsOf : List ℕ → List (List ℕ)
+recordsOf t = recordsWithin (suc (length t)) t
+
+-- the first record of a kind, [] for none
+unfoldable pub firstOf : ℕ → List (List ℕ) → List ℕ
+firstOf k [] = []
+firstOf k (t ∷ ts) = let rest = firstOf k ts in cond (eqb (kindOf t) k) t rest
+
+-- ---- a block's payload: first cell index (4), then the cells (4 each)
+abbrev pub firstCell : List ℕ → ℕ
+firstCell p = numberAt p 0
+
+abbrev pub cellCount : List ℕ → ℕ
+cellCount p = (length p - 4) / 4
+
+-- k cells, from the byte at on
+unfoldable pub cellsFrom : List ℕ → ℕ → ℕ → List ℕ
+cellsFrom p at zero = []
+cellsFrom p at (suc k) = numberAt p at ∷ cellsFrom p (at + 4) k
+
+unfoldable pub blockCells : List ℕ → List ℕ
+blockCells p = cellsFrom p 4 (cellCount p)
+
+-- ---- a control record's payload: IC, IR, IM, pending (4 each), PR, EX, flags (1 each: 1 monitor, 2 enabled, 4 reset, summed), a zero byte
+abbrev pub flagsOf : List ℕ → ℕ
+flagsOf p = getD p 18 0
+
+abbrev pub lastByte : List ℕ → ℕ
+lastByte p = getD p 19 0
+
+unfoldable pub controlOf : List ℕ → Control
+controlOf p =
+    record {
+      ic = numberAt p 0;
+      ir = numberAt p 4;
+      im = numberAt p 8;
+      pending = numberAt p 12;
+      pr = getD p 16 0;
+      ex = getD p 17 0;
+      monitor = eqb (flagsOf p % 2) 1;
+      enabled = eqb (flagsOf p / 2 % 2) 1;
+      reset = eqb (flagsOf p / 4 % 2) 1;
+    }

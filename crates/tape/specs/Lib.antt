@@ -1,0 +1,9 @@
+-- The load tape: its layout, its judge, what it loads, its first remark.
+pub mod Layout
+pub mod Judge
+pub mod Load
+pub mod Remark
+pub mod Steps
+pub mod Grammar
+pub mod Claims
+pub mod Examples
