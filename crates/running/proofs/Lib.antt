@@ -3,3 +3,4 @@ pub mod CallLaws
 pub mod CycleIsolates
 pub mod CycleValid
 pub mod Promises
+pub mod Fetched

@@ -17,8 +17,8 @@ use Rattle.normalize.specs.Norm.{normalize, normalized}
 use Rattle.rounding.specs.Convert.{ci}
 use Rattle.rounding.specs.Round.{afLeft, leftShifts, normalizeOnce, normalizeRound}
 use Rattle.rounding.specs.Store.{precise, roundStore}
-use Rattle.floating.specs.Add.{faSum, faSmall, faAlign, faWith, addFloating, fa, fs}
-use Rattle.floating.specs.Convert.{cfEnd, cfWith, cf}
+use Rattle.floating.specs.Add.{faSum, faNegligible, faAlign, faByDifference, addFloating, fa, fs}
+use Rattle.floating.specs.Convert.{cfEnd, cfByPlaces, cf}
 use Rattle.floating.specs.Divide.{fdStart, fdAdd, fdLoop, divideFloating, fd}
 use Rattle.floating.specs.Multiply.{fmStep, fmEnd, fmLoop, multiplyFloating, fm}
 use Rattle.floating.specs.Operands.{fetchFloating}
@@ -34,5 +34,5 @@ use Rattle.running.specs.Run.{running, runMachine}
 use Rattle.running.specs.Runs.{run}
 
 unfoldable pub opened : ℕ
-unfolding inTask withIC withIR withIM withPending withPR withEX withEnabled raised flagsCleared overflowed carrySet takenApart resetRecord word pair key putWord putKey byte withByte putByte putLink absent forbids forbidden violation firstWord sizeFits cellFits cellsFit stateFits controlFits judgeStore judgeMachine judgeRun iter until each logicalAnd logicalOr logicalXor cleared isHigh isLow isEqual isNotEqual bitsOne bitsZero sum difference sumWithCarry differenceWithCarry sum24 wmStep wmLast wm wdStep wdLoop abs24 wdSign wdCorrection wdEnd wd places leftStep arithmetic logical normalize normalized ci afLeft leftShifts normalizeOnce normalizeRound precise roundStore faSum faSmall faAlign faWith addFloating fa fs cfEnd cfWith cf fdStart fdAdd fdLoop divideFloating fd fmStep fmEnd fmLoop multiplyFloating fm fetchFloating codes lookup executing operating resetSystem meaning skipped microStep microSteps monitorStep monitorSteps perform extended call bitOf requested firstRequest looksAtLines lineOf bitAlone lineCleared entryRecord enter fetched displacement relative indexed address indirectAbsent effectiveAddress operate fetchRecord decode fetch concluded cycle resetKey startRecord startKey pressingReset pressingStart running runMachine run
+unfolding inTask withIC withIR withIM withPending withPR withEX withEnabled raised flagsCleared overflowed carrySet takenApart resetRecord word pair key putWord putKey byte withByte putByte putLink absent forbids forbidden violation firstWord sizeFits cellFits cellsFit stateFits controlFits judgeStore judgeMachine judgeRun iter until each logicalAnd logicalOr logicalXor cleared isHigh isLow isEqual isNotEqual bitsOne bitsZero sum difference sumWithCarry differenceWithCarry sum24 wmStep wmLast wm wdStep wdLoop abs24 wdSign wdCorrection wdEnd wd places leftStep arithmetic logical normalize normalized ci afLeft leftShifts normalizeOnce normalizeRound precise roundStore faSum faNegligible faAlign faByDifference addFloating fa fs cfEnd cfByPlaces cf fdStart fdAdd fdLoop divideFloating fd fmStep fmEnd fmLoop multiplyFloating fm fetchFloating codes lookup executing operating resetSystem meaning skipped microStep microSteps monitorStep monitorSteps perform extended call bitOf requested firstRequest looksAtLines lineOf bitAlone lineCleared entryRecord enter fetched displacement relative indexed address indirectAbsent effectiveAddress operate fetchRecord decode fetch concluded cycle resetKey startRecord startKey pressingReset pressingStart running runMachine run
 opened = 0

@@ -1,7 +1,7 @@
 -- What is promised of every run: mission demand 3, and what it rests on. Each statement is a type; proofs/Promises.antt has the proofs under like names.
 -- All are about `runMachine`, the definition that the contracts of the code cite.
 -- Assumes nothing.
-use Prim.Native.Nat.{ℕ, _+_, _*_, _/_, _≤_}
+use Prim.Native.Nat.{ℕ, _+_, _*_, _/_, _≤_, _<_}
 use mathlib.Core.Path.{_≡_}
 use mathlib.Core.Bool.{Bool, true, false}
 use mathlib.Core.List.{List}
@@ -11,13 +11,15 @@ use Rattle.machine.specs.declared.Refusal.{Refusal}
 use Rattle.machine.specs.declared.Answer.{Answer}
 use Rattle.machine.specs.declared.Answer.the-variants.{Refused, Ended}
 use Rattle.machine.specs.declared.Verdict.the-variants.{Accepted, Rejected}
-use Rattle.machine.specs.Store.{word}
+use Rattle.machine.specs.Store.{word, byte}
 use Rattle.machine.specs.Records.{interruptionProgram}
 use Rattle.acceptance.specs.Accept.{judgeMachine, judgeRun}
+use Rattle.integer.specs.Sums.{sum24}
 use Rattle.definition.specs.Machine.{Machine}
 use Rattle.definition.specs.Protected.{forbiddenIn, InTaskMode, EqualProtected}
 use Rattle.running.specs.Runs.{Ran, refused}
 use Rattle.running.specs.Calls.{total}
+use Rattle.running.specs.Cycle.{fetched}
 use Rattle.running.specs.Run.{runMachine, runList}
 use Rattle.running.specs.Keys.{pressingReset, pressingStart}
 
@@ -91,3 +93,7 @@ RefusedRun = (lines budget : ℕ) (m : Machine) (q : Refusal) → judgeRun (m .c
 
 abbrev pub RefusedOnly : Type 0
 RefusedOnly = (lines budget : ℕ) (m : Machine) (q : Refusal) → runMachine lines budget m .answer ≡ Refused q → judgeRun (m .cells) (m .control) lines budget ≡ Rejected q
+
+-- at every IC of 24 bits what is fetched is byte(IC) and byte(IC + 1), as printed
+abbrev pub FetchedBytes : Type 0
+FetchedBytes = (s : List ℕ) (ic : ℕ) → ic < 16777216 → fetched s ic ≡ byte s ic * 4096 + byte s (sum24 ic 1)

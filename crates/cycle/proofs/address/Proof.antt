@@ -1,0 +1,25 @@
+use Rattle.running.specs.Cycle.{address}
+use borrow.Author.Needs.{needs}
+use Rattle.cycle.proofs.address.Statement.{statement}
+use Rattle.cycle.proofs.address.Tie as tie
+
+displacement-requires : tie.Need-displacement-requires
+displacement-requires c κs = search needs
+
+sum24-requires : tie.Need-sum24-requires
+sum24-requires c κs = search needs
+
+relative-requires : tie.Need-relative-requires
+relative-requires c κs = search needs
+
+indexed-requires : tie.Need-indexed-requires
+indexed-requires c κs = search needs
+
+returns : tie.Need-returns
+unfolding address
+returns c = (rw (← (c .before .before .before .displacement .ensures .0), ← (c .before .before .sum24 .ensures .0), ← (c .before .relative .ensures .0), ← (c .indexed .ensures .0)), search needs)
+
+pub address-spec : {M : Type 1} → statement M
+address-spec =
+    tie.close
+    (tie.spec displacement-requires sum24-requires relative-requires indexed-requires returns)

@@ -1,0 +1,48 @@
+-- A code that the table of A.2 lacks. Assumes nothing.
+use Prim.Native.Nat.{ℕ, zero, suc, _≤_, _<_}
+use native.Mathlib.Omega.{arith}
+use mathlib.Core.Path.{_≡_, refl}
+use mathlib.Core.Bool.{Bool, true, false, cond, false≢true}
+use mathlib.Core.List.{List, [], _∷_}
+use lib.Dec.{ltb}
+use borrow.Author.Tests.{ltb-true, ne-eqb}
+use Rattle.machine.specs.declared.Control.{Control}
+use Rattle.machine.specs.declared.Fault.the-variants.{Unassigned}
+use Rattle.definition.specs.Machine.{machine, fault}
+use Rattle.definition.specs.MicroOps.{perform}
+use Rattle.definition.specs.Meaning.{None, meaning}
+use Rattle.definition.specs.Codes.{Code, codes, lookup, executing, operating}
+
+-- x is none of 0, .., k - 1: what the last arm of the match is told
+abbrev pub NoneOf : ℕ → ℕ → Type 0
+NoneOf x zero = Unit {0}
+NoneOf x (suc k) = NoneOf x k × (x ≡ k → ⊥)
+
+none-of : (x k : ℕ) → NoneOf x k → k ≤ x
+none-of x zero h = omega arith
+none-of x (suc k) h = let l : k ≤ x = none-of x k (h .0) in let d : x ≡ k → ⊥ = h .1 in omega arith
+
+-- every number of the list is below n
+unfoldable below : ℕ → List Code → Bool
+below n [] = true
+below n (x ∷ xs) = cond (ltb (x .number) n) (below n xs) false
+
+both : (a b : Bool) → cond a b false ≡ true → (a ≡ true) × (b ≡ true)
+both true b e = (refl, e)
+both false b e = absurd (false≢true e)
+
+lookup-beyond : (f n : ℕ) (cs : List Code) → below n cs ≡ true → n ≤ f → lookup f cs ≡ None
+unfolding lookup below
+lookup-beyond f n [] e h = refl
+lookup-beyond f n (x ∷ xs) e h =
+    let p = both (ltb (x .number) n) (below n xs) e in
+    let l : x .number < n = ltb-true (x .number) n (p .0) in
+    rw (ne-eqb f (x .number) (λ q. omega arith)) (lookup-beyond f n xs (p .1) h)
+
+all-below : below 58 codes ≡ true
+unfolding below codes
+all-below = refl
+
+pub unassigned-code : (f w sb : ℕ) (s : List ℕ) (c : Control) → NoneOf f 58 → fault Unassigned (machine s c) ≡ operating f w sb s c
+unfolding operating executing perform meaning
+unassigned-code f w sb s c h = rw (lookup-beyond f 58 codes all-below (none-of f 58 h))

@@ -1,0 +1,768 @@
+use Rattle.definition.specs.Codes.{codes, lookup, operating}
+use borrow.Author.Needs.{needs}
+use Rattle.dispatch.proofs.Unassigned.{unassigned-code}
+use Rattle.dispatch.proofs.operate.Statement.{statement}
+use Rattle.dispatch.proofs.operate.Tie as tie
+
+aw-requires : tie.Need-aw-requires
+aw-requires c κs = search needs
+
+io-requires : tie.Need-io-requires
+io-requires c κs = search needs
+
+bl-requires : tie.Need-bl-requires
+bl-requires c κs = search needs
+
+hl-requires : tie.Need-hl-requires
+hl-requires c κs = search needs
+
+la-requires : tie.Need-la-requires
+la-requires c κs = search needs
+
+lo-requires : tie.Need-lo-requires
+lo-requires c κs = search needs
+
+lx-requires : tie.Need-lx-requires
+lx-requires c κs = search needs
+
+wa-requires : tie.Need-wa-requires
+wa-requires c κs = search needs
+
+ws-requires : tie.Need-ws-requires
+ws-requires c κs = search needs
+
+am-requires : tie.Need-am-requires
+am-requires c κs = search needs
+
+wm-requires : tie.Need-wm-requires
+wm-requires c κs = search needs
+
+al-requires : tie.Need-al-requires
+al-requires c κs = search needs
+
+ml-requires : tie.Need-ml-requires
+ml-requires c κs = search needs
+
+jl-requires : tie.Need-jl-requires
+jl-requires c κs = search needs
+
+jd-requires : tie.Need-jd-requires
+jd-requires c κs = search needs
+
+je-requires : tie.Need-je-requires
+je-requires c κs = search needs
+
+xl-requires : tie.Need-xl-requires
+xl-requires c κs = search needs
+
+bs-requires : tie.Need-bs-requires
+bs-requires c κs = search needs
+
+ba-requires : tie.Need-ba-requires
+ba-requires c κs = search needs
+
+bz-requires : tie.Need-bz-requires
+bz-requires c κs = search needs
+
+rl-requires : tie.Need-rl-requires
+rl-requires c κs = search needs
+
+sp-requires : tie.Need-sp-requires
+sp-requires c κs = search needs
+
+kl-requires : tie.Need-kl-requires
+kl-requires c κs = search needs
+
+rs-requires : tie.Need-rs-requires
+rs-requires c κs = search needs
+
+wd-requires : tie.Need-wd-requires
+wd-requires c κs = search needs
+
+rx-requires : tie.Need-rx-requires
+rx-requires c κs = search needs
+
+hs-requires : tie.Need-hs-requires
+hs-requires c κs = search needs
+
+xs-requires : tie.Need-xs-requires
+xs-requires c κs = search needs
+
+pl-requires : tie.Need-pl-requires
+pl-requires c κs = search needs
+
+ps-requires : tie.Need-ps-requires
+ps-requires c κs = search needs
+
+ms-requires : tie.Need-ms-requires
+ms-requires c κs = search needs
+
+is-requires : tie.Need-is-requires
+is-requires c κs = search needs
+
+ci-requires : tie.Need-ci-requires
+ci-requires c κs = search needs
+
+ac-requires : tie.Need-ac-requires
+ac-requires c κs = search needs
+
+ns-requires : tie.Need-ns-requires
+ns-requires c κs = search needs
+
+nd-requires : tie.Need-nd-requires
+nd-requires c κs = search needs
+
+shift-as-requires : tie.Need-shift-as-requires
+shift-as-requires c κs = search needs
+
+ad-requires : tie.Need-ad-requires
+ad-requires c κs = search needs
+
+ls-requires : tie.Need-ls-requires
+ls-requires c κs = search needs
+
+ld-requires : tie.Need-ld-requires
+ld-requires c κs = search needs
+
+sh-requires : tie.Need-sh-requires
+sh-requires c κs = search needs
+
+sl-requires : tie.Need-sl-requires
+sl-requires c κs = search needs
+
+se-requires : tie.Need-se-requires
+se-requires c κs = search needs
+
+sn-requires : tie.Need-sn-requires
+sn-requires c κs = search needs
+
+so-requires : tie.Need-so-requires
+so-requires c κs = search needs
+
+sz-requires : tie.Need-sz-requires
+sz-requires c κs = search needs
+
+sx-requires : tie.Need-sx-requires
+sx-requires c κs = search needs
+
+ic-requires : tie.Need-ic-requires
+ic-requires c κs = search needs
+
+fa-requires : tie.Need-fa-requires
+fa-requires c κs = search needs
+
+fs-requires : tie.Need-fs-requires
+fs-requires c κs = search needs
+
+fm-requires : tie.Need-fm-requires
+fm-requires c κs = search needs
+
+ks-requires : tie.Need-ks-requires
+ks-requires c κs = search needs
+
+fd-requires : tie.Need-fd-requires
+fd-requires c κs = search needs
+
+cf-requires : tie.Need-cf-requires
+cf-requires c κs = search needs
+
+dl-requires : tie.Need-dl-requires
+dl-requires c κs = search needs
+
+ds-requires : tie.Need-ds-requires
+ds-requires c κs = search needs
+
+aa-requires : tie.Need-aa-requires
+aa-requires c κs = search needs
+
+ss-requires : tie.Need-ss-requires
+ss-requires c κs = search needs
+
+same-length : tie.Need-same-length
+same-length c = search needs
+
+returns : tie.Need-returns
+unfolding operating lookup codes
+returns c = rw (c .before .before .before .before .match .keys1, ← (c .before .before .aw .ensures))
+
+same-length-2 : tie.Need-same-length-2
+same-length-2 c = search needs
+
+returns-2 : tie.Need-returns-2
+unfolding operating lookup codes
+returns-2 c = rw (c .before .before .before .before .match .keys2, ← (c .before .before .io .ensures))
+
+same-length-3 : tie.Need-same-length-3
+same-length-3 c = search needs
+
+returns-3 : tie.Need-returns-3
+unfolding operating lookup codes
+returns-3 c = rw (c .before .before .before .before .match .keys3, ← (c .before .before .bl .ensures))
+
+same-length-4 : tie.Need-same-length-4
+same-length-4 c = search needs
+
+returns-4 : tie.Need-returns-4
+unfolding operating lookup codes
+returns-4 c = rw (c .before .before .before .before .match .keys4, ← (c .before .before .hl .ensures))
+
+same-length-5 : tie.Need-same-length-5
+same-length-5 c = search needs
+
+returns-5 : tie.Need-returns-5
+unfolding operating lookup codes
+returns-5 c = rw (c .before .before .before .before .match .keys5, ← (c .before .before .la .ensures))
+
+same-length-6 : tie.Need-same-length-6
+same-length-6 c = search needs
+
+returns-6 : tie.Need-returns-6
+unfolding operating lookup codes
+returns-6 c = rw (c .before .before .before .before .match .keys6, ← (c .before .before .lo .ensures))
+
+same-length-7 : tie.Need-same-length-7
+same-length-7 c = search needs
+
+returns-7 : tie.Need-returns-7
+unfolding operating lookup codes
+returns-7 c = rw (c .before .before .before .before .match .keys7, ← (c .before .before .lx .ensures))
+
+same-length-8 : tie.Need-same-length-8
+same-length-8 c = search needs
+
+returns-8 : tie.Need-returns-8
+unfolding operating lookup codes
+returns-8 c = rw (c .before .before .before .before .match .keys8, ← (c .before .before .wa .ensures))
+
+same-length-9 : tie.Need-same-length-9
+same-length-9 c = search needs
+
+returns-9 : tie.Need-returns-9
+unfolding operating lookup codes
+returns-9 c = rw (c .before .before .before .before .match .keys9, ← (c .before .before .ws .ensures))
+
+same-length-10 : tie.Need-same-length-10
+same-length-10 c = search needs
+
+returns-10 : tie.Need-returns-10
+unfolding operating lookup codes
+returns-10 c = rw (c .before .before .before .before .match .keys10, ← (c .before .before .am .ensures))
+
+same-length-11 : tie.Need-same-length-11
+same-length-11 c = search needs
+
+returns-11 : tie.Need-returns-11
+unfolding operating lookup codes
+returns-11 c = rw (c .before .before .before .before .match .keys11, ← (c .before .before .wm .ensures))
+
+same-length-12 : tie.Need-same-length-12
+same-length-12 c = search needs
+
+returns-12 : tie.Need-returns-12
+unfolding operating lookup codes
+returns-12 c = rw (c .before .before .before .before .match .keys12, ← (c .before .before .al .ensures))
+
+same-length-13 : tie.Need-same-length-13
+same-length-13 c = search needs
+
+returns-13 : tie.Need-returns-13
+unfolding operating lookup codes
+returns-13 c = rw (c .before .before .before .before .match .keys13, ← (c .before .before .ml .ensures))
+
+same-length-14 : tie.Need-same-length-14
+same-length-14 c = search needs
+
+returns-14 : tie.Need-returns-14
+unfolding operating lookup codes
+returns-14 c = rw (c .before .before .before .before .match .keys14, ← (c .before .before .jl .ensures))
+
+same-length-15 : tie.Need-same-length-15
+same-length-15 c = search needs
+
+returns-15 : tie.Need-returns-15
+unfolding operating lookup codes
+returns-15 c = rw (c .before .before .before .before .match .keys15, ← (c .before .before .jd .ensures))
+
+same-length-16 : tie.Need-same-length-16
+same-length-16 c = search needs
+
+returns-16 : tie.Need-returns-16
+unfolding operating lookup codes
+returns-16 c = rw (c .before .before .before .before .match .keys16, ← (c .before .before .je .ensures))
+
+same-length-17 : tie.Need-same-length-17
+same-length-17 c = search needs
+
+returns-17 : tie.Need-returns-17
+unfolding operating lookup codes
+returns-17 c = rw (c .before .before .before .before .match .keys17, ← (c .before .before .xl .ensures))
+
+same-length-18 : tie.Need-same-length-18
+same-length-18 c = search needs
+
+returns-18 : tie.Need-returns-18
+unfolding operating lookup codes
+returns-18 c = rw (c .before .before .before .before .match .keys18, ← (c .before .before .bs .ensures))
+
+same-length-19 : tie.Need-same-length-19
+same-length-19 c = search needs
+
+returns-19 : tie.Need-returns-19
+unfolding operating lookup codes
+returns-19 c = rw (c .before .before .before .before .match .keys19, ← (c .before .before .ba .ensures))
+
+same-length-20 : tie.Need-same-length-20
+same-length-20 c = search needs
+
+returns-20 : tie.Need-returns-20
+unfolding operating lookup codes
+returns-20 c = rw (c .before .before .before .before .match .keys20, ← (c .before .before .bz .ensures))
+
+same-length-21 : tie.Need-same-length-21
+same-length-21 c = search needs
+
+returns-21 : tie.Need-returns-21
+unfolding operating lookup codes
+returns-21 c = rw (c .before .before .before .before .match .keys21, ← (c .before .before .rl .ensures))
+
+same-length-22 : tie.Need-same-length-22
+same-length-22 c = search needs
+
+returns-22 : tie.Need-returns-22
+unfolding operating lookup codes
+returns-22 c = rw (c .before .before .before .before .match .keys22, ← (c .before .before .sp .ensures))
+
+same-length-23 : tie.Need-same-length-23
+same-length-23 c = search needs
+
+returns-23 : tie.Need-returns-23
+unfolding operating lookup codes
+returns-23 c = rw (c .before .before .before .before .match .keys23, ← (c .before .before .kl .ensures))
+
+same-length-24 : tie.Need-same-length-24
+same-length-24 c = search needs
+
+returns-24 : tie.Need-returns-24
+unfolding operating lookup codes
+returns-24 c = rw (c .before .before .before .before .match .keys24, ← (c .before .before .rs .ensures))
+
+same-length-25 : tie.Need-same-length-25
+same-length-25 c = search needs
+
+returns-25 : tie.Need-returns-25
+unfolding operating lookup codes
+returns-25 c = rw (c .before .before .before .before .match .keys25, ← (c .before .before .wd .ensures))
+
+same-length-26 : tie.Need-same-length-26
+same-length-26 c = search needs
+
+returns-26 : tie.Need-returns-26
+unfolding operating lookup codes
+returns-26 c = rw (c .before .before .before .before .match .keys26, ← (c .before .before .rx .ensures))
+
+same-length-27 : tie.Need-same-length-27
+same-length-27 c = search needs
+
+returns-27 : tie.Need-returns-27
+unfolding operating lookup codes
+returns-27 c = rw (c .before .before .before .before .match .keys27, ← (c .before .before .hs .ensures))
+
+same-length-28 : tie.Need-same-length-28
+same-length-28 c = search needs
+
+returns-28 : tie.Need-returns-28
+unfolding operating lookup codes
+returns-28 c = rw (c .before .before .before .before .match .keys28, ← (c .before .before .xs .ensures))
+
+same-length-29 : tie.Need-same-length-29
+same-length-29 c = search needs
+
+returns-29 : tie.Need-returns-29
+unfolding operating lookup codes
+returns-29 c = rw (c .before .before .before .before .match .keys29, ← (c .before .before .pl .ensures))
+
+same-length-30 : tie.Need-same-length-30
+same-length-30 c = search needs
+
+returns-30 : tie.Need-returns-30
+unfolding operating lookup codes
+returns-30 c = rw (c .before .before .before .before .match .keys30, ← (c .before .before .ps .ensures))
+
+same-length-31 : tie.Need-same-length-31
+same-length-31 c = search needs
+
+returns-31 : tie.Need-returns-31
+unfolding operating lookup codes
+returns-31 c = rw (c .before .before .before .before .match .keys31, ← (c .before .before .ms .ensures))
+
+same-length-32 : tie.Need-same-length-32
+same-length-32 c = search needs
+
+returns-32 : tie.Need-returns-32
+unfolding operating lookup codes
+returns-32 c = rw (c .before .before .before .before .match .keys32, ← (c .before .before .is .ensures))
+
+same-length-33 : tie.Need-same-length-33
+same-length-33 c = search needs
+
+returns-33 : tie.Need-returns-33
+unfolding operating lookup codes
+returns-33 c = rw (c .before .before .before .before .match .keys33, ← (c .before .before .ci .ensures))
+
+same-length-34 : tie.Need-same-length-34
+same-length-34 c = search needs
+
+returns-34 : tie.Need-returns-34
+unfolding operating lookup codes
+returns-34 c = rw (c .before .before .before .before .match .keys34, ← (c .before .before .ac .ensures))
+
+same-length-35 : tie.Need-same-length-35
+same-length-35 c = search needs
+
+returns-35 : tie.Need-returns-35
+unfolding operating lookup codes
+returns-35 c = rw (c .before .before .before .before .match .keys35, ← (c .before .before .ns .ensures))
+
+same-length-36 : tie.Need-same-length-36
+same-length-36 c = search needs
+
+returns-36 : tie.Need-returns-36
+unfolding operating lookup codes
+returns-36 c = rw (c .before .before .before .before .match .keys36, ← (c .before .before .nd .ensures))
+
+same-length-37 : tie.Need-same-length-37
+same-length-37 c = search needs
+
+returns-37 : tie.Need-returns-37
+unfolding operating lookup codes
+returns-37 c = rw (c .before .before .before .before .match .keys37, ← (c .before .before .shift-as .ensures))
+
+same-length-38 : tie.Need-same-length-38
+same-length-38 c = search needs
+
+returns-38 : tie.Need-returns-38
+unfolding operating lookup codes
+returns-38 c = rw (c .before .before .before .before .match .keys38, ← (c .before .before .ad .ensures))
+
+same-length-39 : tie.Need-same-length-39
+same-length-39 c = search needs
+
+returns-39 : tie.Need-returns-39
+unfolding operating lookup codes
+returns-39 c = rw (c .before .before .before .before .match .keys39, ← (c .before .before .ls .ensures))
+
+same-length-40 : tie.Need-same-length-40
+same-length-40 c = search needs
+
+returns-40 : tie.Need-returns-40
+unfolding operating lookup codes
+returns-40 c = rw (c .before .before .before .before .match .keys40, ← (c .before .before .ld .ensures))
+
+same-length-41 : tie.Need-same-length-41
+same-length-41 c = search needs
+
+returns-41 : tie.Need-returns-41
+unfolding operating lookup codes
+returns-41 c = rw (c .before .before .before .before .match .keys41, ← (c .before .before .sh .ensures))
+
+same-length-42 : tie.Need-same-length-42
+same-length-42 c = search needs
+
+returns-42 : tie.Need-returns-42
+unfolding operating lookup codes
+returns-42 c = rw (c .before .before .before .before .match .keys42, ← (c .before .before .sl .ensures))
+
+same-length-43 : tie.Need-same-length-43
+same-length-43 c = search needs
+
+returns-43 : tie.Need-returns-43
+unfolding operating lookup codes
+returns-43 c = rw (c .before .before .before .before .match .keys43, ← (c .before .before .se .ensures))
+
+same-length-44 : tie.Need-same-length-44
+same-length-44 c = search needs
+
+returns-44 : tie.Need-returns-44
+unfolding operating lookup codes
+returns-44 c = rw (c .before .before .before .before .match .keys44, ← (c .before .before .sn .ensures))
+
+same-length-45 : tie.Need-same-length-45
+same-length-45 c = search needs
+
+returns-45 : tie.Need-returns-45
+unfolding operating lookup codes
+returns-45 c = rw (c .before .before .before .before .match .keys45, ← (c .before .before .so .ensures))
+
+same-length-46 : tie.Need-same-length-46
+same-length-46 c = search needs
+
+returns-46 : tie.Need-returns-46
+unfolding operating lookup codes
+returns-46 c = rw (c .before .before .before .before .match .keys46, ← (c .before .before .sz .ensures))
+
+same-length-47 : tie.Need-same-length-47
+same-length-47 c = search needs
+
+returns-47 : tie.Need-returns-47
+unfolding operating lookup codes
+returns-47 c = rw (c .before .before .before .before .match .keys47, ← (c .before .before .sx .ensures))
+
+same-length-48 : tie.Need-same-length-48
+same-length-48 c = search needs
+
+returns-48 : tie.Need-returns-48
+unfolding operating lookup codes
+returns-48 c = rw (c .before .before .before .before .match .keys48, ← (c .before .before .ic .ensures))
+
+same-length-49 : tie.Need-same-length-49
+same-length-49 c = search needs
+
+returns-49 : tie.Need-returns-49
+unfolding operating lookup codes
+returns-49 c = rw (c .before .before .before .before .match .keys49, ← (c .before .before .fa .ensures))
+
+same-length-50 : tie.Need-same-length-50
+same-length-50 c = search needs
+
+returns-50 : tie.Need-returns-50
+unfolding operating lookup codes
+returns-50 c = rw (c .before .before .before .before .match .keys50, ← (c .before .before .fs .ensures))
+
+same-length-51 : tie.Need-same-length-51
+same-length-51 c = search needs
+
+returns-51 : tie.Need-returns-51
+unfolding operating lookup codes
+returns-51 c = rw (c .before .before .before .before .match .keys51, ← (c .before .before .fm .ensures))
+
+same-length-52 : tie.Need-same-length-52
+same-length-52 c = search needs
+
+returns-52 : tie.Need-returns-52
+unfolding operating lookup codes
+returns-52 c = rw (c .before .before .before .before .match .keys52, ← (c .before .before .ks .ensures))
+
+same-length-53 : tie.Need-same-length-53
+same-length-53 c = search needs
+
+returns-53 : tie.Need-returns-53
+unfolding operating lookup codes
+returns-53 c = rw (c .before .before .before .before .match .keys53, ← (c .before .before .fd .ensures))
+
+same-length-54 : tie.Need-same-length-54
+same-length-54 c = search needs
+
+returns-54 : tie.Need-returns-54
+unfolding operating lookup codes
+returns-54 c = rw (c .before .before .before .before .match .keys54, ← (c .before .before .cf .ensures))
+
+same-length-55 : tie.Need-same-length-55
+same-length-55 c = search needs
+
+returns-55 : tie.Need-returns-55
+unfolding operating lookup codes
+returns-55 c = rw (c .before .before .before .before .match .keys55, ← (c .before .before .dl .ensures))
+
+same-length-56 : tie.Need-same-length-56
+same-length-56 c = search needs
+
+returns-56 : tie.Need-returns-56
+unfolding operating lookup codes
+returns-56 c = rw (c .before .before .before .before .match .keys56, ← (c .before .before .ds .ensures))
+
+same-length-57 : tie.Need-same-length-57
+same-length-57 c = search needs
+
+returns-57 : tie.Need-returns-57
+unfolding operating lookup codes
+returns-57 c = rw (c .before .before .before .before .match .keys57, ← (c .before .before .aa .ensures))
+
+same-length-58 : tie.Need-same-length-58
+same-length-58 c = search needs
+
+returns-58 : tie.Need-returns-58
+unfolding operating lookup codes
+returns-58 c = rw (c .before .before .before .before .match .keys58, ← (c .before .before .ss .ensures))
+
+returns-59 : tie.Need-returns-59
+returns-59 c = unassigned-code _ _ _ _ _ (c .match .rest)
+
+pub operate-spec : {M : Type 1} → statement M
+operate-spec =
+    tie.close
+    (tie.spec
+    aw-requires
+    io-requires
+    bl-requires
+    hl-requires
+    la-requires
+    lo-requires
+    lx-requires
+    wa-requires
+    ws-requires
+    am-requires
+    wm-requires
+    al-requires
+    ml-requires
+    jl-requires
+    jd-requires
+    je-requires
+    xl-requires
+    bs-requires
+    ba-requires
+    bz-requires
+    rl-requires
+    sp-requires
+    kl-requires
+    rs-requires
+    wd-requires
+    rx-requires
+    hs-requires
+    xs-requires
+    pl-requires
+    ps-requires
+    ms-requires
+    is-requires
+    ci-requires
+    ac-requires
+    ns-requires
+    nd-requires
+    shift-as-requires
+    ad-requires
+    ls-requires
+    ld-requires
+    sh-requires
+    sl-requires
+    se-requires
+    sn-requires
+    so-requires
+    sz-requires
+    sx-requires
+    ic-requires
+    fa-requires
+    fs-requires
+    fm-requires
+    ks-requires
+    fd-requires
+    cf-requires
+    dl-requires
+    ds-requires
+    aa-requires
+    ss-requires
+    same-length
+    returns
+    same-length-2
+    returns-2
+    same-length-3
+    returns-3
+    same-length-4
+    returns-4
+    same-length-5
+    returns-5
+    same-length-6
+    returns-6
+    same-length-7
+    returns-7
+    same-length-8
+    returns-8
+    same-length-9
+    returns-9
+    same-length-10
+    returns-10
+    same-length-11
+    returns-11
+    same-length-12
+    returns-12
+    same-length-13
+    returns-13
+    same-length-14
+    returns-14
+    same-length-15
+    returns-15
+    same-length-16
+    returns-16
+    same-length-17
+    returns-17
+    same-length-18
+    returns-18
+    same-length-19
+    returns-19
+    same-length-20
+    returns-20
+    same-length-21
+    returns-21
+    same-length-22
+    returns-22
+    same-length-23
+    returns-23
+    same-length-24
+    returns-24
+    same-length-25
+    returns-25
+    same-length-26
+    returns-26
+    same-length-27
+    returns-27
+    same-length-28
+    returns-28
+    same-length-29
+    returns-29
+    same-length-30
+    returns-30
+    same-length-31
+    returns-31
+    same-length-32
+    returns-32
+    same-length-33
+    returns-33
+    same-length-34
+    returns-34
+    same-length-35
+    returns-35
+    same-length-36
+    returns-36
+    same-length-37
+    returns-37
+    same-length-38
+    returns-38
+    same-length-39
+    returns-39
+    same-length-40
+    returns-40
+    same-length-41
+    returns-41
+    same-length-42
+    returns-42
+    same-length-43
+    returns-43
+    same-length-44
+    returns-44
+    same-length-45
+    returns-45
+    same-length-46
+    returns-46
+    same-length-47
+    returns-47
+    same-length-48
+    returns-48
+    same-length-49
+    returns-49
+    same-length-50
+    returns-50
+    same-length-51
+    returns-51
+    same-length-52
+    returns-52
+    same-length-53
+    returns-53
+    same-length-54
+    returns-54
+    same-length-55
+    returns-55
+    same-length-56
+    returns-56
+    same-length-57
+    returns-57
+    same-length-58
+    returns-58
+    returns-59)
