@@ -1,0 +1,46 @@
+-- What the proof of `run` takes from the tests and from the promises. Assumes nothing.
+use Prim.Native.Nat.{ℕ, _<_, _+_}
+use native.Mathlib.Omega.{arith}
+use mathlib.Core.Path.{_≡_, refl, sym, subst, _∙_}
+use mathlib.Core.Bool.{Bool, true, false, cond, false≢true}
+use mathlib.Core.List.{List}
+use lib.Dec.{ltb}
+use borrow.Author.Tests.{ltb-true}
+use Rattle.machine.specs.declared.Control.{Control}
+use Rattle.machine.specs.declared.Refusal.{Refusal}
+use Rattle.machine.specs.declared.Refusal.the-variants.{Budget, Lines}
+use Rattle.machine.specs.declared.Verdict.{Verdict}
+use Rattle.machine.specs.declared.Verdict.the-variants.{Accepted, Rejected}
+use Rattle.machine.specs.Fields.{raised}
+use Rattle.acceptance.specs.Accept.{judgeMachine, judgeCall, judgeRun}
+use Rattle.definition.specs.Machine.{Machine, machine}
+use Rattle.running.specs.Runs.{Ran, refused}
+use Rattle.running.specs.Cycle.{cycle}
+use Rattle.running.specs.Run.{inReset, judgeOf, joined, running, runMachine}
+use Rattle.running.specs.Promises.{KeepsProtected, Counts}
+use Rattle.running.proofs.CallLaws.{call-run}
+use Rattle.running.proofs.Promises.{isolation, counts-of-run, refused-run}
+
+kept : (b : Bool) (v : Verdict) (q : Refusal) → cond b v (Rejected q) ≡ Accepted → (b ≡ true) × (v ≡ Accepted)
+kept true v q e = (refl, e)
+kept false v q e = let z : _≡_ {A = ℕ} 0 1 = cc in absurd (omega arith)
+
+call-budget : (v : Verdict) (l b : ℕ) → judgeCall v l b ≡ Accepted → b < 65536
+call-budget Accepted l b e = ltb-true b 65536 (kept (ltb b 65536) Accepted Budget (kept (ltb l 2097152) (cond (ltb b 65536) Accepted (Rejected Budget)) Lines e .1) .0)
+call-budget (Rejected q) l b e = let z : _≡_ {A = ℕ} 0 1 = cc in absurd (omega arith)
+
+pub budget-fits : (s : List ℕ) (c : Control) (l b : ℕ) → Accepted ≡ judgeRun s c l b → b < 65536
+unfolding judgeRun
+budget-fits s c l b e = call-budget (judgeMachine s c) l b (sym e)
+
+pub run-accepted : (s : List ℕ) (c : Control) (l b : ℕ) (x : Ran Machine) → Accepted ≡ judgeRun s c l b → x ≡ running b (machine s (raised c l))
+    → x ≡ runMachine l b (machine s c)
+unfolding judgeRun running runMachine
+run-accepted s c l b x e h = h ∙ sym (call-run inReset cycle judgeOf joined l b (machine s c) (sym e))
+
+pub run-rejected : (s : List ℕ) (c : Control) (l b : ℕ) (q : Refusal) → Rejected q ≡ judgeRun s c l b → refused q (machine s c) ≡ runMachine l b (machine s c)
+run-rejected s c l b q e = sym (refused-run l b (machine s c) q (sym e))
+
+-- what the definition promises, of any call that meets it
+pub with-promises : (m : Machine) (l b : ℕ) (x : Ran Machine) → x ≡ runMachine l b m → (x ≡ runMachine l b m) × (KeepsProtected m x × Counts b x)
+with-promises m l b x e = (e, (subst (KeepsProtected m) (sym e) (isolation l b m), subst (Counts b) (sym e) (counts-of-run l b m)))

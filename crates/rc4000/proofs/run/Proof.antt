@@ -1,0 +1,49 @@
+use mathlib.Core.Path.{sym, _∙_}
+use Rattle.rc4000.proofs.Laws.{budget-fits, run-accepted, run-rejected, with-promises}
+use borrow.Author.Needs.{needs}
+use Rattle.rc4000.proofs.run.Statement.{statement}
+use Rattle.rc4000.proofs.run.Tie as tie
+
+judge-run-requires : tie.Need-judge-run-requires
+judge-run-requires c κs = search needs
+
+enum-told : tie.Need-enum-told
+enum-told c = search needs
+
+raise-requires : tie.Need-raise-requires
+raise-requires c κs = search needs
+
+run-requires : tie.Need-run-requires
+run-requires c κs = budget-fits _ _ _ _ (sym (c .before .before .enum-told .given .1) ∙ c .before .before .before .before .judge-run .ensures)
+
+enum-known-v : tie.Need-enum-known-v
+enum-known-v c = search needs
+
+same-length : tie.Need-same-length
+same-length c = search needs
+
+returns : tie.Need-returns
+returns c =
+    let a = sym (c .before .before .before .before .before .enum-told .given .1) ∙ c .before .before .before .before .before .before .before .judge-run .ensures in
+    with-promises _ _ _ _ (run-accepted _ _ _ _ _ a (rw (c .before .before .before .before .raise .ensures) at (c .before .before .run .ensures)))
+
+same-length-2 : tie.Need-same-length-2
+same-length-2 c = search needs
+
+returns-2 : tie.Need-returns-2
+returns-2 c =
+    with-promises _ _ _ _ (run-rejected _ _ _ _ _ (sym (c .before .v .given .1) ∙ c .before .before .before .judge-run .ensures))
+
+pub run-spec : {M : Type 1} → statement M
+run-spec =
+    tie.close
+    (tie.spec
+    judge-run-requires
+    enum-told
+    raise-requires
+    run-requires
+    enum-known-v
+    same-length
+    returns
+    same-length-2
+    returns-2)

@@ -1,0 +1,14 @@
+use Rattle.running.specs.Keys.{startRecord}
+use borrow.Author.Needs.{needs}
+use Rattle.rc4000.proofs.start_record.Statement.{statement}
+use Rattle.rc4000.proofs.start_record.Tie as tie
+
+mul-t4 : tie.Need-mul-t4
+mul-t4 c = search needs
+
+returns : tie.Need-returns
+unfolding startRecord
+returns c = search needs
+
+pub start-record-spec : {M : Type 1} → statement M
+start-record-spec = tie.close (tie.spec mul-t4 returns)

@@ -1,0 +1,79 @@
+use Prim.Native.Nat.{_-_, _≤_}
+use native.Mathlib.Omega.{arith}
+use mathlib.Core.Path.{_≡_, refl, sym, _∙_}
+use mathlib.Core.Bool.{false}
+use lib.ListN.{length}
+use Rattle.definition.specs.Machine.{machine}
+use Rattle.running.specs.Run.{running}
+use Rattle.runner.proofs.Loop.{following, at-first, begun-in-reset, not-reset, run-goes, run-stops, run-spent}
+use borrow.Author.Needs.{needs}
+use Rattle.runner.proofs.run.Statement.{statement}
+use Rattle.runner.proofs.run.Tie as tie
+
+abbrev Inv-loop : tie.InvT-loop
+Inv-loop s₀ budget d₀ n₀ s d n =
+    (n ≤ budget) × (length s ≡ length s₀) × (d .reset ≡ false) × (following n (running (budget - n) (machine s d)) ≡ running budget (machine s₀ d₀))
+
+abbrev μ-loop : tie.MeasureT-loop
+μ-loop s₀ budget d₀ n₀ s d n = budget - n
+
+returns : tie.Need-returns Inv-loop μ-loop
+returns c = begun-in-reset _ _ _ (c .if1 .taken)
+
+loop-holds : tie.Need-loop-holds Inv-loop μ-loop
+loop-holds c = (search needs, refl, c .if1 .left, at-first _ _)
+
+cycle-requires : tie.Need-cycle-requires Inv-loop μ-loop
+cycle-requires c κs = search needs
+
+goes-on-requires : tie.Need-goes-on-requires Inv-loop μ-loop
+goes-on-requires c κs = search needs
+
+add-n : tie.Need-add-n Inv-loop μ-loop
+add-n c = search needs
+
+loop-less : tie.Need-loop-less Inv-loop μ-loop
+loop-less c = omega arith
+
+loop-again : tie.Need-loop-again Inv-loop μ-loop
+loop-again c =
+    let inv = c .before .before .before .before .before .before .before .before .loop .inv in
+    let g = sym (c .before .before .goes-on .ensures) ∙ c .before .if2 .taken in
+    (omega arith, c .before .before .before .before .before .cycle .kept .0 ∙ inv .1, not-reset _ _ g, sym (run-goes _ _ _ _ _ _ (c .before .before .before .before .before .before .before .loop-test .taken) (inv .2) (c .before .before .before .before .before .cycle .ensures) g) ∙ inv .3)
+
+stop-requires : tie.Need-stop-requires Inv-loop μ-loop
+stop-requires c κs = search needs
+
+same-length : tie.Need-same-length Inv-loop μ-loop
+same-length c = search needs
+
+returns-2 : tie.Need-returns-2 Inv-loop μ-loop
+returns-2 c =
+    let inv = c .before .before .before .before .before .before .before .before .loop .inv in
+    let g = sym (c .before .before .goes-on .ensures) ∙ c .before .if2 .left in
+    rw (c .stop .ensures) (run-stops _ _ _ _ _ _ (c .before .before .before .before .before .before .before .loop-test .taken) (inv .2) (c .before .before .before .before .before .cycle .ensures) g ∙ inv .3)
+
+same-length-2 : tie.Need-same-length-2 Inv-loop μ-loop
+same-length-2 c = search needs
+
+returns-3 : tie.Need-returns-3 Inv-loop μ-loop
+returns-3 c = let inv = c .before .loop .inv in run-spent _ _ _ _ (c .loop-test .left) (inv .2) ∙ inv .3
+
+pub run-spec : {M : Type 1} → statement M
+run-spec =
+    tie.close
+    (tie.spec
+    Inv-loop
+    μ-loop
+    returns
+    loop-holds
+    cycle-requires
+    goes-on-requires
+    add-n
+    loop-less
+    loop-again
+    stop-requires
+    same-length
+    returns-2
+    same-length-2
+    returns-3)

@@ -1,0 +1,24 @@
+use Rattle.runner.specs.Ends.{stopped}
+use borrow.Author.Needs.{needs}
+use Rattle.runner.proofs.stop.Statement.{statement}
+use Rattle.runner.proofs.stop.Tie as tie
+
+enum-told : tie.Need-enum-told
+enum-told c = search needs
+
+add-t9 : tie.Need-add-t9
+add-t9 c = search needs
+
+enum-known-e : tie.Need-enum-known-e
+enum-known-e c = search needs
+
+returns : tie.Need-returns
+unfolding stopped
+returns c = rw (c .enum-told .given .1)
+
+returns-2 : tie.Need-returns-2
+unfolding stopped
+returns-2 c = rw (c .before .e .given .1)
+
+pub stop-spec : {M : Type 1} → statement M
+stop-spec = tie.close (tie.spec enum-told add-t9 enum-known-e returns returns-2)

@@ -1,0 +1,79 @@
+// The cycles of a run, until the budget is used, the reset state or an entry.
+ghost use mathlib.Core.Path.{_≡_};
+ghost use Prim.Native.Nat.{_<_};
+ghost use Rattle.definition.specs.Machine.{machine};
+ghost use Rattle.running.specs.Bridge.{ranOf};
+ghost use Rattle.running.specs.Run.{running};
+ghost use Rattle.runner.specs.Ends.{goesOn, stopped};
+use machine::Answer;
+use machine::Control;
+use machine::CycleEnd;
+use machine::Cycled;
+use machine::Outcome;
+use machine::Run;
+
+// Does the run go on after this cycle.
+fn goes_on(t: Cycled) -> bool
+    ensures { λ r. ⌜ r ≡ goesOn (t .end) (t .control) ⌝ }
+{
+    let c = t.control;
+    let e = t.end;
+    match e {
+        CycleEnd::Executed => !c.reset,
+        CycleEnd::Entered(_) => false,
+    }
+}
+
+// The run that ends with this cycle, n instructions before it.
+fn stop(t: Cycled, n: u32) -> Run
+    requires { ⌜ n < 65536 ⌝ }
+    ensures { λ r. ⌜ r ≡ stopped (t .end) (t .control) n ⌝ }
+{
+    let c = t.control;
+    let e = t.end;
+    match e {
+        CycleEnd::Executed => Run {
+            control: c,
+            answer: Answer::Ended(Outcome::Reset),
+            executed: n + 1,
+            entries: 0,
+        },
+        CycleEnd::Entered(k) => Run {
+            control: c,
+            answer: Answer::Ended(Outcome::Interrupted(k)),
+            executed: n,
+            entries: 1,
+        },
+    }
+}
+
+pub fn run(s: &mut [u32], c: Control, budget: u32) -> Run
+    requires { ⌜ budget < 65536 ⌝ }
+    ensures { λ r. ⌜ ranOf r (now (s .exit)) ≡ running budget (machine (now (s .entry)) c) ⌝ }
+{
+    if c.reset {
+        return Run {
+            control: c,
+            answer: Answer::Ended(Outcome::Reset),
+            executed: 0,
+            entries: 0,
+        };
+    }
+    let mut d = c;
+    let mut n: u32 = 0;
+    while n < budget {
+        let t = cycle::cycle(s, d);
+        if goes_on(t) {
+            d = t.control;
+            n += 1;
+        } else {
+            return stop(t, n);
+        }
+    }
+    Run {
+        control: d,
+        answer: Answer::Ended(Outcome::Spent),
+        executed: n,
+        entries: 0,
+    }
+}
