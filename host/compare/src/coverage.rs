@@ -11,7 +11,7 @@ use std::collections::BTreeMap;
 use std::fmt;
 
 /// The mnemonic codes of A.2, by numeric code.
-const MNEMONICS: [&str; 64] = [
+pub const MNEMONICS: [&str; 64] = [
     "AW", "IO", "BL", "HL", "LA", "LO", "LX", "WA", "WS", "AM", "WM", "AL", "ML", "JL", "JD", "JE",
     "XL", "BS", "BA", "BZ", "RL", "SP", "KL", "RS", "WD", "RX", "HS", "XS", "PL", "PS", "MS", "IS",
     "CI", "AC", "NS", "ND", "AS", "AD", "LS", "LD", "SH", "SL", "SE", "SN", "SO", "SZ", "SX", "IC",

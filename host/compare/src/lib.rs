@@ -10,9 +10,10 @@ mod random;
 mod tapes;
 mod words;
 
-pub use coverage::Coverage;
+pub use coverage::{Coverage, MNEMONICS};
 pub use generator::{case, Case};
 pub use tapes::{Damage, DAMAGES};
+pub use words::{assemble, WORD};
 
 use protocol::{Answer, FrontEnd, Machine, Request};
 use std::fmt;

@@ -1,0 +1,73 @@
+//! The stored cases of `crates/cases`: runs and keys on small stores, with the
+//! answers of the emulation.
+//!
+//! The format of the two files is described in `crates/cases/README.md`.
+
+#![forbid(unsafe_code)]
+#![warn(missing_docs)]
+
+mod arithmetic;
+mod files;
+mod instructions;
+mod machine;
+mod papers;
+mod refusals;
+mod sequences;
+
+pub use files::{answers, input};
+
+use compare::{Case, Coverage};
+use protocol::{Emulation, FrontEnd, Request};
+
+/// The seed of the stored random cases.
+pub const SEED: u64 = 4000;
+
+/// The number of random cases.
+pub const RANDOM: usize = 3000;
+
+/// The most cells of a case.
+pub const CELLS: usize = 64;
+
+/// The most cycles of a random case that is not refused.
+const CYCLES: u32 = 12;
+
+/// The chosen cases, then the first random ones of a seed that are small.
+pub fn cases(seed: u64) -> Vec<Request> {
+    let random = (0..).map(|number| compare::case(seed, number).request);
+    instructions::cases()
+        .into_iter()
+        .chain(refusals::cases())
+        .chain(papers::cases())
+        .chain(arithmetic::cases())
+        .chain(sequences::cases())
+        .chain(random.filter(is_small).take(RANDOM))
+        .collect()
+}
+
+/// A run or a key on few cells, of few cycles.
+fn is_small(request: &Request) -> bool {
+    match request {
+        Request::Run { store, budget, .. } => {
+            store.size <= CELLS && (*budget <= CYCLES || *budget > 65_535)
+        }
+        Request::PressReset { store, .. } | Request::PressStart { store, .. } => {
+            store.size <= CELLS
+        }
+        _ => false,
+    }
+}
+
+/// What the cases are about.
+pub fn coverage(cases: &[Request]) -> Coverage {
+    let mut coverage = Coverage::default();
+    let mut emulation = FrontEnd::new(Emulation);
+    for request in cases {
+        let answer = emulation.answer(request);
+        let case = Case {
+            request: request.clone(),
+            damages: Vec::new(),
+        };
+        coverage.count(&case, &answer);
+    }
+    coverage
+}

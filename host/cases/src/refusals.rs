@@ -1,0 +1,117 @@
+//! Refusals 1 to 5, alone and two at a time, with what just passes.
+
+use crate::machine::Machine;
+use protocol::Request;
+
+/// All of them.
+pub fn cases() -> Vec<Request> {
+    let mut cases: Vec<Request> = alone().iter().flat_map(every_call).collect();
+    cases.extend(control_fields().iter().flat_map(every_call));
+    cases.extend(flags().iter().flat_map(every_call));
+    cases.extend(lines_and_budgets().iter().map(Machine::run));
+    cases.extend(together().iter().flat_map(every_call));
+    cases
+}
+
+fn every_call(machine: &Machine) -> Vec<Request> {
+    vec![machine.run(), machine.press_reset(), machine.press_start()]
+}
+
+fn machine() -> Machine {
+    Machine::new(8).at(0).budget(2)
+}
+
+/// The size of the store and the size of a cell.
+fn alone() -> Vec<Machine> {
+    let mut machines = Vec::new();
+    for size in 0..=9 {
+        let mut machine = machine();
+        machine.cells.resize(size, 0);
+        machines.push(machine);
+    }
+    for cell in [0, 4, 7] {
+        for value in [134_217_727, 134_217_728, 1 << 31, u32::MAX] {
+            let mut machine = machine();
+            machine.cells[cell] = value;
+            machines.push(machine);
+        }
+    }
+    machines
+}
+
+/// Each field of the control record at its limits and beyond.
+fn control_fields() -> Vec<Machine> {
+    let mut machines = Vec::new();
+    for value in [0xff_ffff, 1 << 24, u32::MAX] {
+        for field in 0..4 {
+            let mut machine = machine();
+            let control = &mut machine.control;
+            let fields = [
+                &mut control.ic,
+                &mut control.ir,
+                &mut control.im,
+                &mut control.pending,
+            ];
+            for (place, register) in fields.into_iter().enumerate() {
+                if place == field {
+                    *register = value;
+                }
+            }
+            machines.push(machine);
+        }
+    }
+    for pr in [0, 127, 128, 255, 256, 384, u32::MAX] {
+        let mut machine = machine();
+        machine.control.pr = pr;
+        machines.push(machine);
+    }
+    machines.extend([7, 8, u32::MAX].map(|ex| machine().ex(ex)));
+    machines
+}
+
+/// Every combination of monitor mode, enabled and reset state.
+fn flags() -> Vec<Machine> {
+    (0..8)
+        .map(|flags| {
+            let mut machine = machine();
+            machine.control.monitor = flags & 1 != 0;
+            machine.control.enabled = flags & 2 != 0;
+            machine.control.reset = flags & 4 != 0;
+            machine
+        })
+        .collect()
+}
+
+fn lines_and_budgets() -> Vec<Machine> {
+    let lines = [0x1f_ffff, 1 << 21, 1 << 22, 1 << 23, 1 << 24, u32::MAX];
+    let budgets = [0, 65_535, 65_536, 1 << 24, u32::MAX];
+    let mut machines = Vec::from(lines.map(|lines| machine().lines(lines)));
+    machines.extend(budgets.map(|budget| machine().budget(budget)));
+    machines.extend(budgets.map(|budget| machine().in_reset().budget(budget)));
+    machines
+}
+
+/// A machine that is refused for this number too.
+fn refused(mut machine: Machine, number: u32) -> Machine {
+    match number {
+        1 => machine.cells.truncate(7),
+        2 => machine.cells[6] = u32::MAX,
+        3 => machine.control.ex = 8,
+        4 => machine.lines = 1 << 23,
+        _ => machine.budget = 65_536,
+    }
+    machine
+}
+
+/// Each pair of refusals, and all from one on.
+fn together() -> Vec<Machine> {
+    let mut machines = Vec::new();
+    for first in 1..=5 {
+        machines.push(refused(machine(), first));
+        for second in first + 1..=5 {
+            machines.push(refused(refused(machine(), first), second));
+        }
+        machines.push((first..=5).fold(machine(), refused));
+    }
+    machines
+}
