@@ -3,25 +3,21 @@ use Prim.Native.Nat.{ℕ, zero, suc, _+_, _-_, _≤_, _<_}
 use mathlib.Core.Path.{_≡_, refl, sym, ap, _∙_}
 use mathlib.Core.Bool.{Bool, true, false, cond}
 use mathlib.Core.List.{List, [], _∷_, _++_}
-use mathlib.Core.Logic.{_⊎_, inl, inr, ⊎-elim}
+use mathlib.Core.Logic.{_⊎_, ⊎-elim}
 use native.Mathlib.Omega.{arith}
-use native.Mathlib.Decide.{ℕ-discrete}
 use borrow.Author.Tests.{le-leb, eqb-true}
 use lib.ListN.{length, take, drop, getD, length-append, length-take, length-drop, List·getD-append}
 use lib.Seq.{getD-take, getD-drop, getD-append-add}
 use lib.Dec.{ltb, leb, eqb}
-use Rattle.machine.specs.declared.Control.{Control}
-use Rattle.machine.specs.declared.Refusal.{Refusal}
-use Rattle.machine.specs.declared.Refusal.the-variants.{CellValue, StoreSize, TapeLength}
+use Rattle.machine.specs.declared.Refusal.the-variants.{CellValue, StoreSize}
 use Rattle.machine.specs.declared.Verdict.{Verdict}
 use Rattle.machine.specs.declared.Verdict.the-variants.{Accepted, Rejected}
 use Rattle.acceptance.specs.Accept.{sizeFits, cellsFit, controlFits, judgeStore, judgeMachine}
-use Rattle.tape.specs.Layout.{lengthOf, kindOf, payloadOf, restOf, recordsOf, firstOf, firstCell, cellCount, blockCells, flagsOf, lastByte, controlOf}
-use Rattle.tape.specs.Judge.{controlGood, judgeRecords, judgeTape}
+use Rattle.tape.specs.Layout.{kindOf, payloadOf, restOf, recordsOf, firstOf, firstCell, cellCount, blockCells, flagsOf, lastByte, controlOf}
+use Rattle.tape.specs.Judge.{controlGood, judgeTape}
 use Rattle.tape.specs.Load.{pasted, stored, loadRecord, loadRecords, loadedControl, judgeThen, judgeLoad, loadedBy, loading}
 use Rattle.tape.specs.Remark.{judgeReading}
 use Rattle.tape.specs.Steps.{RecordFits, RecordsFit}
-use Rattle.tape.specs.Grammar.{Tape}
 use Rattle.tape.specs.Claims.{AcceptedTapes, Unnamed, KeptCells, KeptSize, KeptAll, LoadedMachines, SameVerdict}
 use Rattle.tape.proofs.Records.{length-rest}
 use Rattle.tape.proofs.Cells.{length-cells}
@@ -33,8 +29,8 @@ use Rattle.tape.proofs.Grammars.{grammar, judged-of}
 pub accepted-tapes : AcceptedTapes
 unfolding judgeTape
 accepted-tapes n t = (
-  λ e. let j = tape-judged n t e in record { size = j .0; records = grammar (j .1) refl },
-  λ h. rw (le-leb (length t) 65536 (h .size)) (judged-back (judged-of (h .records))),
+  λ e. let j = tape-judged n t e in record { size = j .0; layout = grammar (j .1) refl },
+  λ h. rw (le-leb (length t) 65536 (h .size)) (judged-back (judged-of (h .layout))),
 )
 
 -- ---- a store that takes cells

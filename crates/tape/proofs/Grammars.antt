@@ -2,17 +2,17 @@
 use Prim.Native.Nat.{ℕ, _+_, _-_, _*_, _%_, _≤_, _<_}
 use mathlib.Core.Path.{_≡_, refl, sym, ap, subst, _∙_}
 use mathlib.Core.Bool.{Bool, true, false, cond}
-use mathlib.Core.List.{List, [], _∷_, _++_}
+use mathlib.Core.List.{List, _++_}
 use native.Mathlib.Omega.{arith}
 use native.Mathlib.Decide.{ℕ-discrete}
 use borrow.Author.Tests.{le-leb, eq-eqb, ne-eqb, leb-true, eqb-true, ltb-false}
 use lib.ListN.{length, take, drop, getD, length-append, length-take, take-append-drop, List·getD-append}
-use lib.Seq.{take-append-seam, drop-append-add, drop-append-seam, drop-drop, getD-take}
+use lib.Seq.{take-append-seam, drop-append-seam, drop-drop, getD-take}
 use lib.Dec.{leb, ltb, eqb}
 use Rattle.machine.specs.declared.Verdict.the-variants.{Accepted}
-use Rattle.tape.specs.Layout.{numberAt, lengthOf, kindOf, payloadOf, restOf, firstCell, cellCount, flagsOf, lastByte, controlOf}
+use Rattle.tape.specs.Layout.{numberAt, lengthOf, kindOf, payloadOf, restOf, firstCell, cellCount, flagsOf, lastByte}
 use Rattle.tape.specs.Judge.{kindKnown, inOrder, lengthFits, judgeBlock, controlGood, judgeControl, judgePayload}
-use Rattle.tape.specs.Grammar.{Header, Block, ControlRecord, Records, block, remark, control}
+use Rattle.tape.specs.Grammar.{Header, BlockPayload, ControlPayload, Records, block-then, remark-then, control-then-end}
 use Rattle.tape.proofs.Records.{length-payload}
 use Rattle.tape.proofs.Judged.{Good, Judged, last, more, both, block-length, control-length, end-length, remark-length, block-payload, control-payload, no-end}
 
@@ -44,14 +44,14 @@ header-of {n} {after} {t} k g e =
       kind = header-kind t ∙ e;
     }
 
-block-of : {n : ℕ} {after : Bool} {t : List ℕ} → Good n after t → kindOf t ≡ 1 → Block n (payloadOf t)
+block-of : {n : ℕ} {after : Bool} {t : List ℕ} → Good n after t → kindOf t ≡ 1 → BlockPayload n (payloadOf t)
 block-of {n} {after} {t} g e =
     let l = block-length (lengthOf t) (rw e at (g .size)) in
     let p = block-payload n (payloadOf t) (rw e at (g .payload)) in
     let s = length-payload t (g .whole) in
     record { fours = rw s (l .0); some = rw s (l .1); place = p .0; cells = p .1 }
 
-control-of : {n : ℕ} {after : Bool} {t : List ℕ} → Good n after t → kindOf t ≡ 2 → ControlRecord (payloadOf t)
+control-of : {n : ℕ} {after : Bool} {t : List ℕ} → Good n after t → kindOf t ≡ 2 → ControlPayload (payloadOf t)
 unfolding controlGood
 control-of {n} {after} {t} g e =
     let c = control-payload n (payloadOf t) (rw e at (g .payload)) in
@@ -92,12 +92,12 @@ grammar {n} {after} {t} (more g k j) a = subst (Records n) (sym (parts t)) (at (
     at : Dec (kindOf t ≡ 1) → Dec (kindOf t ≡ 2) → (eqb (kindOf t) 2 ≡ false → Records n (restOf t)) → Records n (take 6 t ++ (payloadOf t ++ restOf t))
     at (yes e) d ih =
         let o : kindOf t ≡ 2 → ⊥ = λ z. omega arith in
-        block (take 6 t) (payloadOf t) (restOf t) (header-of 1 g e) (block-of g e) (ih (ne-eqb (kindOf t) 2 o))
-    at (no a) (yes e) ih = control (take 6 t) (payloadOf t) (restOf t) (header-of 2 g e) (control-of g e) (end-of j (eq-eqb (kindOf t) 2 e))
+        block-then (take 6 t) (payloadOf t) (restOf t) (header-of 1 g e) (block-of g e) (ih (ne-eqb (kindOf t) 2 o))
+    at (no a) (yes e) ih = control-then-end (take 6 t) (payloadOf t) (restOf t) (header-of 2 g e) (control-of g e) (end-of j (eq-eqb (kindOf t) 2 e))
     at (no a) (no b) ih =
         let e = kind-four (kindOf t) (g .known) a b k in
         let l = remark-length (lengthOf t) (rw e at (g .size)) in
-        remark (take 6 t) (payloadOf t) (restOf t) (header-of 4 g e) (rw (length-payload t (g .whole)) l) (ih (ne-eqb (kindOf t) 2 b))
+        remark-then (take 6 t) (payloadOf t) (restOf t) (header-of 4 g e) (rw (length-payload t (g .whole)) l) (ih (ne-eqb (kindOf t) 2 b))
 
 -- ---- from the grammar to the judge
 
@@ -148,7 +148,7 @@ good-of n k after p t w r a b c d =
       payload = rw (r .kind, r .payload) d;
     }
 
-good-block : (n : ℕ) (p t w : List ℕ) → Reads 1 p t w → Block n p → Good n false w
+good-block : (n : ℕ) (p t w : List ℕ) → Reads 1 p t w → BlockPayload n p → Good n false w
 unfolding kindKnown inOrder lengthFits judgePayload judgeBlock
 good-block n p t w r b =
     good-of n 1 false p t w r refl refl
@@ -159,7 +159,7 @@ good-remark : (n : ℕ) (p t w : List ℕ) → Reads 4 p t w → length p ≤ 25
 unfolding kindKnown inOrder lengthFits judgePayload
 good-remark n p t w r h = good-of n 4 false p t w r refl refl (le-leb (length p) 255 h) refl
 
-good-control : (n : ℕ) (p t w : List ℕ) → Reads 2 p t w → ControlRecord p → Good n false w
+good-control : (n : ℕ) (p t w : List ℕ) → Reads 2 p t w → ControlPayload p → Good n false w
 unfolding kindKnown inOrder lengthFits judgePayload judgeControl controlGood
 good-control n p t w r c =
     good-of n 2 false p t w r refl refl (eq-eqb (length p) 20 (c .bytes))
@@ -182,12 +182,12 @@ judged-end n e d =
     (omega arith)
 
 pub judged-of : {n : ℕ} {w : List ℕ} → Records n w → Judged n false w
-judged-of {n} (block h p t d b r) =
+judged-of {n} (block-then h p t d b r) =
     let k = reads h p t 1 d in
     more (good-block n p t (h ++ (p ++ t)) k b) (λ z. omega (arith, k .kind)) (rw (k .kind, k .rest) (judged-of r))
-judged-of {n} (remark h p t d l r) =
+judged-of {n} (remark-then h p t d l r) =
     let k = reads h p t 4 d in
     more (good-remark n p t (h ++ (p ++ t)) k l) (λ z. omega (arith, k .kind)) (rw (k .kind, k .rest) (judged-of r))
-judged-of {n} (control h p e d c x) =
+judged-of {n} (control-then-end h p e d c x) =
     let k = reads h p e 2 d in
     more (good-control n p e (h ++ (p ++ e)) k c) (λ z. omega (arith, k .kind)) (rw (k .kind, k .rest) (judged-end n e x))

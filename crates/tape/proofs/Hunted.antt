@@ -15,7 +15,7 @@ use Rattle.tape.specs.declared.Look.the-variants.{Nothing, Here, Next}
 use Rattle.tape.specs.Layout.{lengthOf, kindOf, payloadOf, restOf, recordsOf, firstOf}
 use Rattle.tape.specs.Steps.{lookFor, Whole}
 use Rattle.tape.proofs.Records.{length-rest}
-use Rattle.tape.proofs.Judged.{Good, Judged, last, more, first-none, first-here, first-next}
+use Rattle.tape.proofs.Judged.{Judged, last, more, first-none, first-here, first-next}
 
 abbrev pub found : ℕ → List ℕ → Look → List ℕ
 found k t Nothing = []

@@ -1,12 +1,12 @@
 -- What the judge's verdict says of the records. Assumes nothing.
-use Prim.Native.Nat.{ℕ, zero, suc, _+_, _-_, _*_, _/_, _%_, _≤_, _<_}
+use Prim.Native.Nat.{ℕ, zero, suc, _+_, _-_, _%_, _≤_, _<_}
 use mathlib.Core.Path.{_≡_, refl, sym, ap, _∙_}
-use mathlib.Core.Bool.{Bool, true, false, not, cond}
-use mathlib.Core.List.{List, [], _∷_}
+use mathlib.Core.Bool.{Bool, true, false, cond}
+use mathlib.Core.List.{List, []}
 use native.Mathlib.Omega.{arith}
 use native.Mathlib.Decide.{ℕ-discrete}
 use mathlib.Core.Logic.{_⊎_, inl, inr, ⊎-elim}
-use borrow.Author.Tests.{lt-ltb, le-ltb, le-leb, eq-eqb, ne-eqb, ltb-true, ltb-false, leb-true, leb-false, eqb-true, eqb-false}
+use borrow.Author.Tests.{le-leb, eq-eqb, ne-eqb, ltb-true, ltb-false, leb-true, eqb-true, eqb-false}
 use lib.ListN.{length, take, drop, length-drop}
 use lib.Seq.{drop-drop}
 use lib.Dec.{ltb, leb, eqb}
@@ -16,11 +16,11 @@ use Rattle.machine.specs.declared.Verdict.{Verdict}
 use Rattle.machine.specs.declared.Verdict.the-variants.{Accepted, Rejected}
 use Rattle.acceptance.specs.Accept.{cellsFit}
 use Rattle.tape.specs.declared.Step.{Step}
-use Rattle.tape.specs.declared.Step.the-variants.{Ends, Goes}
+use Rattle.tape.specs.declared.Step.the-variants.{Done, Advance}
 use Rattle.tape.specs.Layout.{lengthOf, kindOf, payloadOf, restOf, recordsOf, firstOf, firstCell, cellCount, blockCells}
 use Rattle.tape.specs.Judge.{kindKnown, inOrder, lengthFits, judgeBlock, controlGood, judgeControl, judgePayload, judgeRecord, judgeAfter, judgeRecords}
 use Rattle.tape.specs.Steps.{stepAfter, stepBy, stepOf, RecordFits, RecordsFit, ControlThere}
-use Rattle.tape.proofs.Records.{tail, length-rest, length-payload, records-none, records-more}
+use Rattle.tape.proofs.Records.{tail, length-rest, records-none, records-more}
 
 -- ---- an accepted record passed every test
 
@@ -141,12 +141,12 @@ judged-back {n} {after} {t} (more g k j) =
 
 -- ---- the code's step
 abbrev pub follow : ℕ → List ℕ → Step → Verdict
-follow n t (Ends v) = v
-follow n t (Goes k b) = judgeRecords n b (recordsOf (drop k t))
+follow n t (Done v) = v
+follow n t (Advance k b) = judgeRecords n b (recordsOf (drop k t))
 
 step-is : (n : ℕ) (t : List ℕ) (a b : Bool)
     → cond a (cond b Accepted (Rejected RecordOrder)) (judgeRecords n (eqb (kindOf t) 2) (recordsOf (restOf t)))
-    ≡ follow n t (cond a (cond b (Ends Accepted) (Ends (Rejected RecordOrder))) (Goes (6 + lengthOf t) (eqb (kindOf t) 2)))
+    ≡ follow n t (cond a (cond b (Done Accepted) (Done (Rejected RecordOrder))) (Advance (6 + lengthOf t) (eqb (kindOf t) 2)))
 unfolding restOf
 step-is n t true true = refl
 step-is n t true false = refl
@@ -164,17 +164,17 @@ unfolding stepOf
 judge-is n after t = at (ltb (length t) 6) refl
   where
     at : (b : Bool) → ltb (length t) 6 ≡ b
-        → judgeRecords n after (recordsOf t) ≡ follow n t (cond b (Ends (Rejected TapeEnds)) (stepBy (judgeRecord n after t) t))
+        → judgeRecords n after (recordsOf t) ≡ follow n t (cond b (Done (Rejected TapeEnds)) (stepBy (judgeRecord n after t) t))
     at true e = no-records n after t (ltb-true (length t) 6 e)
     at false e = a-record n after t (ltb-false (length t) 6 e) ∙ step-by n t (judgeRecord n after t)
 
 -- a step on goes past the header, and stays within the tape
 abbrev Inside : List ℕ → Step → Type 0
-Inside t (Ends v) = Unit {0}
-Inside t (Goes k b) = (6 ≤ k) × (k ≤ length t)
+Inside t (Done v) = Unit {0}
+Inside t (Advance k b) = (6 ≤ k) × (k ≤ length t)
 
 inside-after : (t : List ℕ) (a b : Bool) → 6 + lengthOf t ≤ length t
-    → Inside t (cond a (cond b (Ends Accepted) (Ends (Rejected RecordOrder))) (Goes (6 + lengthOf t) (eqb (kindOf t) 2)))
+    → Inside t (cond a (cond b (Done Accepted) (Done (Rejected RecordOrder))) (Advance (6 + lengthOf t) (eqb (kindOf t) 2)))
 inside-after t true true h = tt
 inside-after t true false h = tt
 inside-after t false b h = (omega arith, h)
@@ -188,11 +188,11 @@ inside : (n : ℕ) (after : Bool) (t : List ℕ) → Inside t (stepOf n after t)
 unfolding stepOf
 inside n after t = at (ltb (length t) 6)
   where
-    at : (b : Bool) → Inside t (cond b (Ends (Rejected TapeEnds)) (stepBy (judgeRecord n after t) t))
+    at : (b : Bool) → Inside t (cond b (Done (Rejected TapeEnds)) (stepBy (judgeRecord n after t) t))
     at true = tt
     at false = inside-by n after t (judgeRecord n after t) refl
 
-pub step-inside : (n : ℕ) (after : Bool) (t : List ℕ) (k : ℕ) (b : Bool) → stepOf n after t ≡ Goes k b → (6 ≤ k) × (k ≤ length t)
+pub step-inside : (n : ℕ) (after : Bool) (t : List ℕ) (k : ℕ) (b : Bool) → stepOf n after t ≡ Advance k b → (6 ≤ k) × (k ≤ length t)
 step-inside n after t k b e = rw e at (inside n after t)
 
 -- ---- what the loader relies on
@@ -264,13 +264,13 @@ module _ (n : ℕ) (after : Bool) (t : List ℕ) (at : ℕ) (s : Step) (e : s �
   step-at : stepOf n after (drop at t) ≡ s
   step-at = sym (rw (tail at t) at e)
 
-  pub judge-ends : (v : Verdict) → s ≡ Ends v → v ≡ judgeRecords n after (recordsOf (drop at t))
-  judge-ends v q = sym (judge-is n after (drop at t) ∙ ap (follow n (drop at t)) (step-at ∙ q))
+  pub judge-done : (v : Verdict) → s ≡ Done v → v ≡ judgeRecords n after (recordsOf (drop at t))
+  judge-done v q = sym (judge-is n after (drop at t) ∙ ap (follow n (drop at t)) (step-at ∙ q))
 
-  pub goes-inside : (k : ℕ) (b : Bool) → s ≡ Goes k b → at ≤ length t → (6 ≤ k) × (at + k ≤ length t)
-  goes-inside k b q h =
+  pub advance-inside : (k : ℕ) (b : Bool) → s ≡ Advance k b → at ≤ length t → (6 ≤ k) × (at + k ≤ length t)
+  advance-inside k b q h =
       let i = step-inside n after (drop at t) k b (step-at ∙ q) in
       (i .0, omega (arith, i .1, length-drop at t))
 
-  pub judge-goes : (k : ℕ) (b : Bool) → s ≡ Goes k b → judgeRecords n b (recordsOf (drop (at + k) t)) ≡ judgeRecords n after (recordsOf (drop at t))
-  judge-goes k b q = sym (judge-is n after (drop at t) ∙ ap (follow n (drop at t)) (step-at ∙ q) ∙ rw (drop-drop k at t))
+  pub judge-advance : (k : ℕ) (b : Bool) → s ≡ Advance k b → judgeRecords n b (recordsOf (drop (at + k) t)) ≡ judgeRecords n after (recordsOf (drop at t))
+  judge-advance k b q = sym (judge-is n after (drop at t) ∙ ap (follow n (drop at t)) (step-at ∙ q) ∙ rw (drop-drop k at t))

@@ -14,11 +14,11 @@ use Rattle.tape.specs.Layout.{kindOf, payloadOf, recordsOf, firstCell, c
 use Rattle.tape.specs.Judge.{judgeTape}
 use Rattle.tape.specs.Load.{judgeLoad, loading}
 use Rattle.tape.specs.Remark.{judgeReading}
-use Rattle.tape.specs.Grammar.{Tape}
+use Rattle.tape.specs.Grammar.{TapeFor}
 
 -- `accepted-tapes`: a tape is accepted exactly if it is a row of good records with one control record and the end
 abbrev pub AcceptedTapes : Type 0
-AcceptedTapes = (n : ℕ) (t : List ℕ) → (judgeTape n t ≡ Accepted → Tape n t) × (Tape n t → judgeTape n t ≡ Accepted)
+AcceptedTapes = (n : ℕ) (t : List ℕ) → (judgeTape n t ≡ Accepted → TapeFor n t) × (TapeFor n t → judgeTape n t ≡ Accepted)
 
 -- no block among the records names the cell i
 unfoldable pub Unnamed : ℕ → List (List ℕ) → Type 0

@@ -15,14 +15,14 @@ pub record Header (k l : ℕ) (h : List ℕ) : Type 0 where
   pub kind : getD h 4 0 + 256 * getD h 5 0 ≡ k
 
 -- a block's payload: an index and one or more cells, all within the store, none of 134,217,728 or more
-pub record Block (n : ℕ) (p : List ℕ) : Type 0 where
+pub record BlockPayload (n : ℕ) (p : List ℕ) : Type 0 where
   pub fours : length p % 4 ≡ 0
   pub some : 8 ≤ length p
   pub place : firstCell p + cellCount p ≤ n
   pub cells : cellsFit (blockCells p) ≡ true
 
 -- a control record's payload: fields within their widths and rules, flags of three bits, a zero byte
-pub record ControlRecord (p : List ℕ) : Type 0 where
+pub record ControlPayload (p : List ℕ) : Type 0 where
   pub bytes : length p ≡ 20
   pub flags : flagsOf p ≤ 7
   pub zero : lastByte p ≡ 0
@@ -30,10 +30,10 @@ pub record ControlRecord (p : List ℕ) : Type 0 where
 
 -- from a record on
 pub data Records (n : ℕ) : List ℕ → Type 0 where
-  block : (h p t : List ℕ) → Header 1 (length p) h → Block n p → Records n t → Records n (h ++ (p ++ t))
-  remark : (h p t : List ℕ) → Header 4 (length p) h → length p ≤ 255 → Records n t → Records n (h ++ (p ++ t))
-  control : (h p e : List ℕ) → Header 2 (length p) h → ControlRecord p → Header 3 0 e → Records n (h ++ (p ++ e))
+  block-then : (h p t : List ℕ) → Header 1 (length p) h → BlockPayload n p → Records n t → Records n (h ++ (p ++ t))
+  remark-then : (h p t : List ℕ) → Header 4 (length p) h → length p ≤ 255 → Records n t → Records n (h ++ (p ++ t))
+  control-then-end : (h p e : List ℕ) → Header 2 (length p) h → ControlPayload p → Header 3 0 e → Records n (h ++ (p ++ e))
 
-pub record Tape (n : ℕ) (t : List ℕ) : Type 0 where
+pub record TapeFor (n : ℕ) (t : List ℕ) : Type 0 where
   pub size : length t ≤ 65536
-  pub records : Records n t
+  pub layout : Records n t

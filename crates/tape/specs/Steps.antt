@@ -1,4 +1,4 @@
--- One step of the judge and of the hunt, as the code takes them, and what the loader knows of the records of an accepted tape.
+-- One record to the judge and to the hunt, and what the loader relies on in the records of an accepted tape.
 -- Assumes nothing.
 use Prim.Native.Nat.{ℕ, _+_, _≤_, _<_}
 use mathlib.Core.Path.{_≡_}
@@ -10,7 +10,7 @@ use Rattle.machine.specs.declared.Refusal.the-variants.{TapeEnds, RecordOrder}
 use Rattle.machine.specs.declared.Verdict.{Verdict}
 use Rattle.machine.specs.declared.Verdict.the-variants.{Accepted, Rejected}
 use Rattle.tape.specs.declared.Step.{Step}
-use Rattle.tape.specs.declared.Step.the-variants.{Ends, Goes}
+use Rattle.tape.specs.declared.Step.the-variants.{Done, Advance}
 use Rattle.tape.specs.declared.Look.{Look}
 use Rattle.tape.specs.declared.Look.the-variants.{Nothing, Here, Next}
 use Rattle.tape.specs.Layout.{lengthOf, kindOf, payloadOf, firstCell, cellCount}
@@ -19,14 +19,14 @@ use Rattle.tape.specs.Judge.{judgeRecord}
 -- after a good record
 unfoldable pub stepAfter : List ℕ → Step
 stepAfter t =
-    cond (eqb (kindOf t) 3) (cond (leb (length t) (6 + lengthOf t)) (Ends Accepted) (Ends (Rejected RecordOrder))) (Goes (6 + lengthOf t) (eqb (kindOf t) 2))
+    cond (eqb (kindOf t) 3) (cond (leb (length t) (6 + lengthOf t)) (Done Accepted) (Done (Rejected RecordOrder))) (Advance (6 + lengthOf t) (eqb (kindOf t) 2))
 
 abbrev pub stepBy : Verdict → List ℕ → Step
-stepBy (Rejected r) t = Ends (Rejected r)
+stepBy (Rejected r) t = Done (Rejected r)
 stepBy Accepted t = stepAfter t
 
 unfoldable pub stepOf : ℕ → Bool → List ℕ → Step
-stepOf n after t = cond (ltb (length t) 6) (Ends (Rejected TapeEnds)) (stepBy (judgeRecord n after t) t)
+stepOf n after t = cond (ltb (length t) 6) (Done (Rejected TapeEnds)) (stepBy (judgeRecord n after t) t)
 
 -- the record at the start of t, to a hunt for the kind k
 unfoldable pub lookFor : ℕ → List ℕ → Look

@@ -1,10 +1,9 @@
 // The load tape: the judge, the loader, and the reader of the first remark (document 01, "Load tape").
 // A record is handled by the tape from its header on.
 ghost use mathlib.Core.Path.{_≡_};
-ghost use mathlib.Core.Bool.{Bool, true, false};
-ghost use Prim.Native.Nat.{ℕ, _+_, _*_, _≤_, _<_};
+ghost use mathlib.Core.Bool.{true, false};
+ghost use Prim.Native.Nat.{_+_, _*_, _≤_, _<_};
 ghost use lib.ListN.{length};
-ghost use lib.Dec.{eqb};
 ghost use Rattle.machine.specs.declared.Verdict.the-variants.{Accepted};
 ghost use Rattle.acceptance.specs.Accept.{cellsFit};
 ghost use Rattle.tape.specs.Layout.{numberAt, lengthOf, kindOf, payloadOf, recordsOf, firstOf, firstCell, cellCount, cellsFrom, blockCells, controlOf};
@@ -214,10 +213,10 @@ fn judge_record(t: &[u8], cells: usize, after: bool) -> Verdict
 
 // ---- the judge, record by record
 
-// What the judge does next: it has its verdict, or it goes on so many bytes further, where the flag says that this was the control record.
+// What follows a record: the verdict, or the next record so many bytes further on; the flag says that this one was the control record.
 enum Step {
-    Ends(Verdict),
-    Goes(usize, bool),
+    Done(Verdict),
+    Advance(usize, bool),
 }
 
 fn step_after(t: &[u8]) -> Step
@@ -228,23 +227,23 @@ fn step_after(t: &[u8]) -> Step
     let next = 6 + record_length(t);
     if k == 3 {
         if t.len() <= next {
-            return Step::Ends(Verdict::Accepted);
+            return Step::Done(Verdict::Accepted);
         }
-        return Step::Ends(Verdict::Rejected(Refusal::RecordOrder));
+        return Step::Done(Verdict::Rejected(Refusal::RecordOrder));
     }
-    Step::Goes(next, k == 2)
+    Step::Advance(next, k == 2)
 }
 
 fn judge_step(t: &[u8], cells: usize, after: bool) -> Step
     ensures { λ r. ⌜ r ≡ stepOf cells after (now (t .entry)) ⌝ }
 {
     if t.len() < 6 {
-        return Step::Ends(Verdict::Rejected(Refusal::TapeEnds));
+        return Step::Done(Verdict::Rejected(Refusal::TapeEnds));
     }
     let v = judge_record(t, cells, after);
     match v {
         Verdict::Accepted => step_after(t),
-        Verdict::Rejected(r) => Step::Ends(Verdict::Rejected(r)),
+        Verdict::Rejected(r) => Step::Done(Verdict::Rejected(r)),
     }
 }
 
@@ -256,10 +255,10 @@ fn judge_records(tape: &[u8], cells: usize) -> Verdict
     loop {
         let s = judge_step(&tape[at..], cells, after);
         match s {
-            Step::Ends(v) => {
+            Step::Done(v) => {
                 return v;
             }
-            Step::Goes(n, control) => {
+            Step::Advance(n, control) => {
                 at += n;
                 after = control;
             }

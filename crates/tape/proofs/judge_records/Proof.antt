@@ -6,7 +6,7 @@ use denote.Ref.{now}
 use lib.ListN.{length, drop}
 use Rattle.tape.specs.Layout.{recordsOf}
 use Rattle.tape.specs.Judge.{judgeRecords}
-use Rattle.tape.proofs.Judged.{judge-ends, judge-goes, goes-inside}
+use Rattle.tape.proofs.Judged.{judge-done, judge-advance, advance-inside}
 use borrow.Author.Needs.{needs}
 use Rattle.tape.proofs.judge_records.Statement.{statement}
 use Rattle.tape.proofs.judge_records.Tie as tie
@@ -36,22 +36,22 @@ enum-known-s : tie.Need-enum-known-s Inv-loop μ-loop
 enum-known-s c = search needs
 
 returns : tie.Need-returns Inv-loop μ-loop
-returns c = judge-ends _ _ (now (c .before .before .before .before .before .before .before .args .tape)) (c .before .before .before .before .before .loop .at) _ (c .before .before .before .judge-step .ensures) _ (c .before .s .given .1) ∙ c .before .before .before .before .before .loop .inv .1
+returns c = judge-done _ _ (now (c .before .before .before .before .before .before .before .args .tape)) (c .before .before .before .before .before .loop .at) _ (c .before .before .before .judge-step .ensures) _ (c .before .s .given .1) ∙ c .before .before .before .before .before .loop .inv .1
 
 enum-known-s-2 : tie.Need-enum-known-s-2 Inv-loop μ-loop
 enum-known-s-2 c = search needs
 
-went : (c : tie.After-known-told2 Inv-loop μ-loop) → (6 ≤ c .before .s2 .given .0 .0) × (c .before .before .before .before .before .loop .at + c .before .s2 .given .0 .0 ≤ length (now (c .before .before .before .before .before .before .before .args .tape)))
-went c = goes-inside _ _ (now (c .before .before .before .before .before .before .before .args .tape)) (c .before .before .before .before .before .loop .at) _ (c .before .before .before .judge-step .ensures) _ _ (c .before .s2 .given .1) (c .before .before .before .before .before .loop .inv .0)
+inside : (c : tie.After-known-told2 Inv-loop μ-loop) → (6 ≤ c .before .s2 .given .0 .0) × (c .before .before .before .before .before .loop .at + c .before .s2 .given .0 .0 ≤ length (now (c .before .before .before .before .before .before .before .args .tape)))
+inside c = advance-inside _ _ (now (c .before .before .before .before .before .before .before .args .tape)) (c .before .before .before .before .before .loop .at) _ (c .before .before .before .judge-step .ensures) _ _ (c .before .s2 .given .1) (c .before .before .before .before .before .loop .inv .0)
 
 add-at : tie.Need-add-at Inv-loop μ-loop
-add-at c = omega (arith, went c)
+add-at c = omega (arith, inside c)
 
 loop-less : tie.Need-loop-less Inv-loop μ-loop
-loop-less c = omega (arith, went c)
+loop-less c = omega (arith, inside c)
 
 loop-again : tie.Need-loop-again Inv-loop μ-loop
-loop-again c = (went c .1, judge-goes _ _ (now (c .before .before .before .before .before .before .before .args .tape)) (c .before .before .before .before .before .loop .at) _ (c .before .before .before .judge-step .ensures) _ _ (c .before .s2 .given .1) ∙ c .before .before .before .before .before .loop .inv .1)
+loop-again c = (inside c .1, judge-advance _ _ (now (c .before .before .before .before .before .before .before .args .tape)) (c .before .before .before .before .before .loop .at) _ (c .before .before .before .judge-step .ensures) _ _ (c .before .s2 .given .1) ∙ c .before .before .before .before .before .loop .inv .1)
 
 pub judge-records-spec : {M : Type 1} → statement M
 judge-records-spec =
