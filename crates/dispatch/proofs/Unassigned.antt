@@ -1,5 +1,5 @@
 -- A code that the table of A.2 lacks. Assumes nothing.
-use Prim.Native.Nat.{ℕ, zero, suc, _≤_, _<_}
+use Prim.Native.Nat.{ℕ, zero, suc, _+_, _≤_, _<_}
 use native.Mathlib.Omega.{arith}
 use mathlib.Core.Path.{_≡_, refl}
 use mathlib.Core.Bool.{Bool, true, false, cond, false≢true}
@@ -13,14 +13,17 @@ use Rattle.definition.specs.MicroOps.{perform}
 use Rattle.definition.specs.Meaning.{None, meaning}
 use Rattle.definition.specs.Codes.{Code, codes, lookup, executing, operating}
 
--- x is none of 0, .., k - 1: what the last arm of the match is told
-abbrev pub NoneOf : ℕ → ℕ → Type 0
-NoneOf x zero = Unit {0}
-NoneOf x (suc k) = NoneOf x k × (x ≡ k → ⊥)
+-- x is none of a, .., a + k - 1: what the last arm of a match is told
+abbrev pub NoneFrom : ℕ → ℕ → ℕ → Type 0
+NoneFrom x a zero = Unit {0}
+NoneFrom x a (suc k) = NoneFrom x a k × (x ≡ a + k → ⊥)
 
-none-of : (x k : ℕ) → NoneOf x k → k ≤ x
-none-of x zero h = omega arith
-none-of x (suc k) h = let l : k ≤ x = none-of x k (h .0) in let d : x ≡ k → ⊥ = h .1 in omega arith
+pub none-from : (x a k : ℕ) → a ≤ x → NoneFrom x a k → a + k ≤ x
+none-from x a zero l h = omega arith
+none-from x a (suc k) l h = let m : a + k ≤ x = none-from x a k l (h .0) in let d : x ≡ a + k → ⊥ = h .1 in omega arith
+
+pub no-low-code : (f : ℕ) → f < 32 → NoneFrom f 0 32 → ⊥
+no-low-code f l h = let m : 0 + 32 ≤ f = none-from f 0 32 (omega arith) h in omega arith
 
 -- every number of the list is below n
 unfoldable below : ℕ → List Code → Bool
@@ -43,6 +46,6 @@ all-below : below 58 codes ≡ true
 unfolding below codes
 all-below = refl
 
-pub unassigned-code : (f w sb : ℕ) (s : List ℕ) (c : Control) → NoneOf f 58 → fault Unassigned (machine s c) ≡ operating f w sb s c
+pub unassigned-code : (f w sb : ℕ) (s : List ℕ) (c : Control) → 58 ≤ f → fault Unassigned (machine s c) ≡ operating f w sb s c
 unfolding operating executing perform meaning
-unassigned-code f w sb s c h = rw (lookup-beyond f 58 codes all-below (none-of f 58 h))
+unassigned-code f w sb s c h = rw (lookup-beyond f 58 codes all-below h)

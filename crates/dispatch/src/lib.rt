@@ -1,6 +1,7 @@
-// The operation by its numeric code (A.2).
+// The operation by its numeric code (A.2). Two halves: with an arm for each of 58 codes in one `match` the compiler takes every arm for rare, and
+// leaves the instructions as calls.
 ghost use mathlib.Core.Path.{_≡_};
-ghost use Prim.Native.Nat.{_<_};
+ghost use Prim.Native.Nat.{_<_, _≤_};
 ghost use Rattle.definition.specs.Bridge.{effectOf};
 ghost use Rattle.definition.specs.Codes.{operating};
 use machine::Completion;
@@ -8,9 +9,9 @@ use machine::Control;
 use machine::Fault;
 use machine::Performed;
 
-// One arm for each code.
-pub fn operate(s: &mut [u32], c: Control, f: u32, w: u32, sb: u32) -> Performed
-    requires { ⌜ sb < 16777216 ⌝ }
+// The codes 0 to 31.
+fn operate_low(s: &mut [u32], c: Control, f: u32, w: u32, sb: u32) -> Performed
+    requires { ⌜ (f < 32) × (sb < 16777216) ⌝ }
     ensures { λ r. ⌜ effectOf r (now (s .exit)) ≡ operating f w sb (now (s .entry)) c ⌝ }
 {
     match f {
@@ -46,6 +47,19 @@ pub fn operate(s: &mut [u32], c: Control, f: u32, w: u32, sb: u32) -> Performed
         29 => sequence_instructions::ps(s, c, w, sb),
         30 => sequence_instructions::ms(s, c, w, sb),
         31 => sequence_instructions::is(s, c, w, sb),
+        _ => Performed {
+            control: c,
+            completion: Completion::Faulted(Fault::Unassigned),
+        },
+    }
+}
+
+// The codes 32 to 57; those from 58 on are not used.
+fn operate_high(s: &mut [u32], c: Control, f: u32, w: u32, sb: u32) -> Performed
+    requires { ⌜ (32 ≤ f) × (sb < 16777216) ⌝ }
+    ensures { λ r. ⌜ effectOf r (now (s .exit)) ≡ operating f w sb (now (s .entry)) c ⌝ }
+{
+    match f {
         32 => floating_instructions::ci(s, c, w, sb),
         33 => integer_instructions::ac(s, c, w, sb),
         34 => integer_instructions::ns(s, c, w, sb),
@@ -76,5 +90,16 @@ pub fn operate(s: &mut [u32], c: Control, f: u32, w: u32, sb: u32) -> Performed
             control: c,
             completion: Completion::Faulted(Fault::Unassigned),
         },
+    }
+}
+
+pub fn operate(s: &mut [u32], c: Control, f: u32, w: u32, sb: u32) -> Performed
+    requires { ⌜ sb < 16777216 ⌝ }
+    ensures { λ r. ⌜ effectOf r (now (s .exit)) ≡ operating f w sb (now (s .entry)) c ⌝ }
+{
+    if f < 32 {
+        operate_low(s, c, f, w, sb)
+    } else {
+        operate_high(s, c, f, w, sb)
     }
 }

@@ -1,8 +1,8 @@
 use Rattle.definition.specs.Codes.{codes, lookup, operating}
 use borrow.Author.Needs.{needs}
-use Rattle.dispatch.proofs.Unassigned.{unassigned-code}
-use Rattle.dispatch.proofs.operate.Statement.{statement}
-use Rattle.dispatch.proofs.operate.Tie as tie
+use Rattle.dispatch.proofs.Unassigned.{no-low-code}
+use Rattle.dispatch.proofs.operate_low.Statement.{statement}
+use Rattle.dispatch.proofs.operate_low.Tie as tie
 
 aw-requires : tie.Need-aw-requires
 aw-requires c κs = search needs
@@ -99,84 +99,6 @@ ms-requires c κs = search needs
 
 is-requires : tie.Need-is-requires
 is-requires c κs = search needs
-
-ci-requires : tie.Need-ci-requires
-ci-requires c κs = search needs
-
-ac-requires : tie.Need-ac-requires
-ac-requires c κs = search needs
-
-ns-requires : tie.Need-ns-requires
-ns-requires c κs = search needs
-
-nd-requires : tie.Need-nd-requires
-nd-requires c κs = search needs
-
-shift-as-requires : tie.Need-shift-as-requires
-shift-as-requires c κs = search needs
-
-ad-requires : tie.Need-ad-requires
-ad-requires c κs = search needs
-
-ls-requires : tie.Need-ls-requires
-ls-requires c κs = search needs
-
-ld-requires : tie.Need-ld-requires
-ld-requires c κs = search needs
-
-sh-requires : tie.Need-sh-requires
-sh-requires c κs = search needs
-
-sl-requires : tie.Need-sl-requires
-sl-requires c κs = search needs
-
-se-requires : tie.Need-se-requires
-se-requires c κs = search needs
-
-sn-requires : tie.Need-sn-requires
-sn-requires c κs = search needs
-
-so-requires : tie.Need-so-requires
-so-requires c κs = search needs
-
-sz-requires : tie.Need-sz-requires
-sz-requires c κs = search needs
-
-sx-requires : tie.Need-sx-requires
-sx-requires c κs = search needs
-
-ic-requires : tie.Need-ic-requires
-ic-requires c κs = search needs
-
-fa-requires : tie.Need-fa-requires
-fa-requires c κs = search needs
-
-fs-requires : tie.Need-fs-requires
-fs-requires c κs = search needs
-
-fm-requires : tie.Need-fm-requires
-fm-requires c κs = search needs
-
-ks-requires : tie.Need-ks-requires
-ks-requires c κs = search needs
-
-fd-requires : tie.Need-fd-requires
-fd-requires c κs = search needs
-
-cf-requires : tie.Need-cf-requires
-cf-requires c κs = search needs
-
-dl-requires : tie.Need-dl-requires
-dl-requires c κs = search needs
-
-ds-requires : tie.Need-ds-requires
-ds-requires c κs = search needs
-
-aa-requires : tie.Need-aa-requires
-aa-requires c κs = search needs
-
-ss-requires : tie.Need-ss-requires
-ss-requires c κs = search needs
 
 same-length : tie.Need-same-length
 same-length c = search needs
@@ -402,193 +324,11 @@ returns-32 : tie.Need-returns-32
 unfolding operating lookup codes
 returns-32 c = rw (c .before .before .before .before .match .keys32, ← (c .before .before .is .ensures))
 
-same-length-33 : tie.Need-same-length-33
-same-length-33 c = search needs
-
 returns-33 : tie.Need-returns-33
-unfolding operating lookup codes
-returns-33 c = rw (c .before .before .before .before .match .keys33, ← (c .before .before .ci .ensures))
+returns-33 c = let start = c .before .before in absurd (no-low-code (start .args .f) (start .pre .0) (c .match .rest))
 
-same-length-34 : tie.Need-same-length-34
-same-length-34 c = search needs
-
-returns-34 : tie.Need-returns-34
-unfolding operating lookup codes
-returns-34 c = rw (c .before .before .before .before .match .keys34, ← (c .before .before .ac .ensures))
-
-same-length-35 : tie.Need-same-length-35
-same-length-35 c = search needs
-
-returns-35 : tie.Need-returns-35
-unfolding operating lookup codes
-returns-35 c = rw (c .before .before .before .before .match .keys35, ← (c .before .before .ns .ensures))
-
-same-length-36 : tie.Need-same-length-36
-same-length-36 c = search needs
-
-returns-36 : tie.Need-returns-36
-unfolding operating lookup codes
-returns-36 c = rw (c .before .before .before .before .match .keys36, ← (c .before .before .nd .ensures))
-
-same-length-37 : tie.Need-same-length-37
-same-length-37 c = search needs
-
-returns-37 : tie.Need-returns-37
-unfolding operating lookup codes
-returns-37 c = rw (c .before .before .before .before .match .keys37, ← (c .before .before .shift-as .ensures))
-
-same-length-38 : tie.Need-same-length-38
-same-length-38 c = search needs
-
-returns-38 : tie.Need-returns-38
-unfolding operating lookup codes
-returns-38 c = rw (c .before .before .before .before .match .keys38, ← (c .before .before .ad .ensures))
-
-same-length-39 : tie.Need-same-length-39
-same-length-39 c = search needs
-
-returns-39 : tie.Need-returns-39
-unfolding operating lookup codes
-returns-39 c = rw (c .before .before .before .before .match .keys39, ← (c .before .before .ls .ensures))
-
-same-length-40 : tie.Need-same-length-40
-same-length-40 c = search needs
-
-returns-40 : tie.Need-returns-40
-unfolding operating lookup codes
-returns-40 c = rw (c .before .before .before .before .match .keys40, ← (c .before .before .ld .ensures))
-
-same-length-41 : tie.Need-same-length-41
-same-length-41 c = search needs
-
-returns-41 : tie.Need-returns-41
-unfolding operating lookup codes
-returns-41 c = rw (c .before .before .before .before .match .keys41, ← (c .before .before .sh .ensures))
-
-same-length-42 : tie.Need-same-length-42
-same-length-42 c = search needs
-
-returns-42 : tie.Need-returns-42
-unfolding operating lookup codes
-returns-42 c = rw (c .before .before .before .before .match .keys42, ← (c .before .before .sl .ensures))
-
-same-length-43 : tie.Need-same-length-43
-same-length-43 c = search needs
-
-returns-43 : tie.Need-returns-43
-unfolding operating lookup codes
-returns-43 c = rw (c .before .before .before .before .match .keys43, ← (c .before .before .se .ensures))
-
-same-length-44 : tie.Need-same-length-44
-same-length-44 c = search needs
-
-returns-44 : tie.Need-returns-44
-unfolding operating lookup codes
-returns-44 c = rw (c .before .before .before .before .match .keys44, ← (c .before .before .sn .ensures))
-
-same-length-45 : tie.Need-same-length-45
-same-length-45 c = search needs
-
-returns-45 : tie.Need-returns-45
-unfolding operating lookup codes
-returns-45 c = rw (c .before .before .before .before .match .keys45, ← (c .before .before .so .ensures))
-
-same-length-46 : tie.Need-same-length-46
-same-length-46 c = search needs
-
-returns-46 : tie.Need-returns-46
-unfolding operating lookup codes
-returns-46 c = rw (c .before .before .before .before .match .keys46, ← (c .before .before .sz .ensures))
-
-same-length-47 : tie.Need-same-length-47
-same-length-47 c = search needs
-
-returns-47 : tie.Need-returns-47
-unfolding operating lookup codes
-returns-47 c = rw (c .before .before .before .before .match .keys47, ← (c .before .before .sx .ensures))
-
-same-length-48 : tie.Need-same-length-48
-same-length-48 c = search needs
-
-returns-48 : tie.Need-returns-48
-unfolding operating lookup codes
-returns-48 c = rw (c .before .before .before .before .match .keys48, ← (c .before .before .ic .ensures))
-
-same-length-49 : tie.Need-same-length-49
-same-length-49 c = search needs
-
-returns-49 : tie.Need-returns-49
-unfolding operating lookup codes
-returns-49 c = rw (c .before .before .before .before .match .keys49, ← (c .before .before .fa .ensures))
-
-same-length-50 : tie.Need-same-length-50
-same-length-50 c = search needs
-
-returns-50 : tie.Need-returns-50
-unfolding operating lookup codes
-returns-50 c = rw (c .before .before .before .before .match .keys50, ← (c .before .before .fs .ensures))
-
-same-length-51 : tie.Need-same-length-51
-same-length-51 c = search needs
-
-returns-51 : tie.Need-returns-51
-unfolding operating lookup codes
-returns-51 c = rw (c .before .before .before .before .match .keys51, ← (c .before .before .fm .ensures))
-
-same-length-52 : tie.Need-same-length-52
-same-length-52 c = search needs
-
-returns-52 : tie.Need-returns-52
-unfolding operating lookup codes
-returns-52 c = rw (c .before .before .before .before .match .keys52, ← (c .before .before .ks .ensures))
-
-same-length-53 : tie.Need-same-length-53
-same-length-53 c = search needs
-
-returns-53 : tie.Need-returns-53
-unfolding operating lookup codes
-returns-53 c = rw (c .before .before .before .before .match .keys53, ← (c .before .before .fd .ensures))
-
-same-length-54 : tie.Need-same-length-54
-same-length-54 c = search needs
-
-returns-54 : tie.Need-returns-54
-unfolding operating lookup codes
-returns-54 c = rw (c .before .before .before .before .match .keys54, ← (c .before .before .cf .ensures))
-
-same-length-55 : tie.Need-same-length-55
-same-length-55 c = search needs
-
-returns-55 : tie.Need-returns-55
-unfolding operating lookup codes
-returns-55 c = rw (c .before .before .before .before .match .keys55, ← (c .before .before .dl .ensures))
-
-same-length-56 : tie.Need-same-length-56
-same-length-56 c = search needs
-
-returns-56 : tie.Need-returns-56
-unfolding operating lookup codes
-returns-56 c = rw (c .before .before .before .before .match .keys56, ← (c .before .before .ds .ensures))
-
-same-length-57 : tie.Need-same-length-57
-same-length-57 c = search needs
-
-returns-57 : tie.Need-returns-57
-unfolding operating lookup codes
-returns-57 c = rw (c .before .before .before .before .match .keys57, ← (c .before .before .aa .ensures))
-
-same-length-58 : tie.Need-same-length-58
-same-length-58 c = search needs
-
-returns-58 : tie.Need-returns-58
-unfolding operating lookup codes
-returns-58 c = rw (c .before .before .before .before .match .keys58, ← (c .before .before .ss .ensures))
-
-returns-59 : tie.Need-returns-59
-returns-59 c = unassigned-code _ _ _ _ _ (c .match .rest)
-
-pub operate-spec : {M : Type 1} → statement M
-operate-spec =
+pub operate-low-spec : {M : Type 1} → statement M
+operate-low-spec =
     tie.close
     (tie.spec
     aw-requires
@@ -623,32 +363,6 @@ operate-spec =
     ps-requires
     ms-requires
     is-requires
-    ci-requires
-    ac-requires
-    ns-requires
-    nd-requires
-    shift-as-requires
-    ad-requires
-    ls-requires
-    ld-requires
-    sh-requires
-    sl-requires
-    se-requires
-    sn-requires
-    so-requires
-    sz-requires
-    sx-requires
-    ic-requires
-    fa-requires
-    fs-requires
-    fm-requires
-    ks-requires
-    fd-requires
-    cf-requires
-    dl-requires
-    ds-requires
-    aa-requires
-    ss-requires
     same-length
     returns
     same-length-2
@@ -713,56 +427,4 @@ operate-spec =
     returns-31
     same-length-32
     returns-32
-    same-length-33
-    returns-33
-    same-length-34
-    returns-34
-    same-length-35
-    returns-35
-    same-length-36
-    returns-36
-    same-length-37
-    returns-37
-    same-length-38
-    returns-38
-    same-length-39
-    returns-39
-    same-length-40
-    returns-40
-    same-length-41
-    returns-41
-    same-length-42
-    returns-42
-    same-length-43
-    returns-43
-    same-length-44
-    returns-44
-    same-length-45
-    returns-45
-    same-length-46
-    returns-46
-    same-length-47
-    returns-47
-    same-length-48
-    returns-48
-    same-length-49
-    returns-49
-    same-length-50
-    returns-50
-    same-length-51
-    returns-51
-    same-length-52
-    returns-52
-    same-length-53
-    returns-53
-    same-length-54
-    returns-54
-    same-length-55
-    returns-55
-    same-length-56
-    returns-56
-    same-length-57
-    returns-57
-    same-length-58
-    returns-58
-    returns-59)
+    returns-33)
