@@ -5,3 +5,4 @@ pub mod Meaning
 pub mod Codes
 pub mod Bridge
 pub mod Protected
+pub mod Worked

@@ -51,7 +51,7 @@ isolated-record : {m : Machine} (n : Machine) (b : Bool) → b ≡ false → Iso
 unfolding fetchRecord
 isolated-record n b e h = isolated-control _ refl refl (e ∙ sym (h .task)) h
 
-register-field : (v : ℕ) → takenApart v .w < 4
+pub register-field : (v : ℕ) → takenApart v .w < 4
 unfolding takenApart
 register-field v = omega arith
 

@@ -9,7 +9,6 @@ use Rattle.machine.specs.declared.Control.{Control}
 use Rattle.machine.specs.declared.Instruction.{Instruction}
 use Rattle.machine.specs.Store.{word, putWord, absent, violation}
 use Rattle.machine.specs.Fields.{withIC, withIR, raised}
-use Rattle.machine.specs.Format.{takenApart}
 use Rattle.machine.proofs.StoreLaws.{word-lt}
 use Rattle.acceptance.specs.Accept.{stateFits}
 use Rattle.integer.specs.Sums.{sum24}
@@ -22,6 +21,7 @@ use Rattle.running.specs.Cycle.{lineOf, lineCleared, entryRecord, enter,
 use Rattle.running.specs.Run.{inReset, joined}
 use Rattle.running.specs.Keys.{resetKey, startRecord, startKey}
 use Rattle.running.proofs.RunLaws.{Meets}
+use Rattle.running.proofs.CycleIsolates.{register-field}
 
 state-entry : (r : Bool) → cond r (cond true true false) true ≡ true
 state-entry true = refl
@@ -42,10 +42,6 @@ live-record n b h = live-control n _ (omega (arith, h .valid .widths)) refl h
 valid-operate : (i : Instruction) (a : ℕ) (n : Machine) → i .w < 4 → Live n → Valid (reached (operate (n .cells) (n .control) i a))
 unfolding operate operating executing
 valid-operate i a n l h = reach-cond Valid (indirectAbsent (n .cells) (i .m) a) _ _ (λ e. h .valid) (λ e. valid-perform (i .w) _ n l h)
-
-register-field : (v : ℕ) → takenApart v .w < 4
-unfolding takenApart
-register-field v = omega arith
 
 valid-decode : (n : Machine) → Live n → Valid (reached (decode (n .cells) (n .control)))
 unfolding decode withIC

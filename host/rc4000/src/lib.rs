@@ -11,6 +11,11 @@
 mod ffi;
 mod types;
 
+/// The Rust program that the README shows, as a test.
+#[cfg(doctest)]
+#[doc = include_str!("../../../README.md")]
+struct Readme;
+
 pub use types::{Control, Kind, Outcome, Refusal, Report};
 
 /// Runs at most `budget` cycles, at most 65,535; the raised `lines` (bits 3 to
