@@ -21,18 +21,17 @@ pub fn cell_fits(x: u32) -> bool
     x < 134217728
 }
 
+// The whole store is looked at, so that the compiler can test several cells at once.
 pub fn cells_fit(s: &[u32]) -> bool
     ensures { λ r. ⌜ r ≡ cellsFit (now (s .entry)) ⌝ }
 {
-    let mut i: usize = 0;
-    while i < s.len() {
-        if s[i] < 134217728 {
-            i += 1;
-        } else {
-            return false;
+    let mut fit = true;
+    for i in 0..s.len() {
+        if s[i] >= 134217728 {
+            fit = false;
         }
     }
-    true
+    fit
 }
 
 fn state_fits(c: Control) -> bool

@@ -1,7 +1,8 @@
 use Prim.Native.Nat.{ℕ, _+_, _-_, _≤_, _<_}
 use mathlib.Core.Path.{_≡_, refl}
-use mathlib.Core.Bool.{false, cond}
+use mathlib.Core.Bool.{Bool, true, false, cond}
 use mathlib.Core.List.{List}
+use mathlib.Core.Logic.{⊎-elim}
 use native.Mathlib.Numerals.{add-one}
 use lib.ListN.{length, getD, drop, drop-of-length-le}
 use lib.Seq.{drop-cons}
@@ -17,11 +18,19 @@ step : (s : List ℕ) (i : ℕ) → i < length s
 unfolding cellsFit
 step s i h = rw (add-one, drop-cons s i 0 h)
 
+never-fits : (fit : Bool) → false ≡ cond fit false false
+never-fits true = refl
+never-fits false = refl
+
+fits-or-not : (fit : Bool) → fit ≡ cond fit true false
+fits-or-not true = refl
+fits-or-not false = refl
+
 abbrev Inv-loop : tie.InvT-loop
-Inv-loop s i₀ i = (i ≤ length s) × (cellsFit (drop i s) ≡ cellsFit s)
+Inv-loop s fit₀ i₀ i-end fit i = (i ≤ length s) × (cond fit (cellsFit (drop i s)) false ≡ cellsFit s)
 
 abbrev μ-loop : tie.MeasureT-loop
-μ-loop s i₀ i = length s - i
+μ-loop s fit₀ i₀ i-end fit i = length s - i
 
 loop-holds : tie.Need-loop-holds Inv-loop μ-loop
 loop-holds c = (search needs, refl)
@@ -39,14 +48,19 @@ loop-less : tie.Need-loop-less Inv-loop μ-loop
 loop-less c = search needs
 
 loop-again : tie.Need-loop-again Inv-loop μ-loop
-loop-again c = (search needs, rw (← (c .before .before .before .loop .inv .1), step _ _ (c .before .before .loop-test .taken), lt-ltb _ _ (c .if1 .taken)))
+loop-again c =
+    let was = c .before .before .before .loop in
+    let within = c .before .before .loop-test .taken in (
+      search needs,
+      ⊎-elim
+          (λ w. rw (w .1, ← (was .inv .1), step _ _ within, le-ltb _ _ (w .0 .taken)) (never-fits (was .fit)))
+          (λ w. rw (w .1, ← (was .inv .1), step _ _ within, lt-ltb _ _ (w .0 .left)))
+          (c .if1 .came),
+    )
 
 returns : tie.Need-returns Inv-loop μ-loop
-returns c = rw (← (c .before .before .before .loop .inv .1), step _ _ (c .before .before .loop-test .taken), le-ltb _ _ (c .if1 .left))
-
-returns-2 : tie.Need-returns-2 Inv-loop μ-loop
 unfolding cellsFit
-returns-2 c = rw (← (c .before .loop .inv .1), drop-of-length-le _ (c .loop-test .left))
+returns c = rw (← (c .before .loop .inv .1), drop-of-length-le _ (c .loop-test .left)) (fits-or-not _)
 
 pub cells-fit-spec : {M : Type 1} → statement M
 cells-fit-spec =
@@ -60,5 +74,4 @@ cells-fit-spec =
     add-i
     loop-less
     loop-again
-    returns
-    returns-2)
+    returns)
