@@ -1,2 +1,3 @@
--- The law of the product.
+-- The law of the steps on ARBR with an offset, and the law of the product.
+pub mod Offset
 pub mod Product
