@@ -1,7 +1,7 @@
 // Registers of the RC 4000, held in u32 and u64.
 ghost use mathlib.Core.Path.{_≡_};
 ghost use Prim.Native.Nat.{_+_, _-_, _*_, _/_, _%_, _^_, _<_, max};
-ghost use Rattle.registers.specs.Reg.{bit, sign, signed, inverse, unlike, asr, shl, addAR, subAR};
+ghost use Rattle.registers.specs.Reg.{signed, addAR, subAR};
 
 // R := signed C, from 24 to 25 bits.
 pub fn signed25(x: u32) -> u32
@@ -17,14 +17,6 @@ pub fn signed24(x: u32) -> u32
     ensures { λ r. ⌜ r ≡ signed 12 24 x ⌝ }
 {
     if x < 2048 { x } else { x + 16773120 }
-}
-
-// ARBR(0:47) := ARBR(-1:46), at 49 bits.
-pub fn asr49(x: u64) -> u64
-    requires { ⌜ x < 2 ^ 49 ⌝ }
-    ensures { λ r. ⌜ (r ≡ asr 49 x) × (r < 2 ^ 49) ⌝ }
-{
-    x / 2 + x / 281474976710656 * 281474976710656
 }
 
 // AR := AR + x on ARBR.
