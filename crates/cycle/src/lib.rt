@@ -1,6 +1,10 @@
 // One cycle (14.5): lines, fetch, decode, effective address, operation, entry.
 ghost use mathlib.Core.Path.{_≡_};
-ghost use Prim.Native.Nat.{_<_, _≤_};
+ghost use Prim.Native.Nat.{_/_, _<_, _≤_};
+ghost use mathlib.Core.Bool.{false, cond};
+ghost use lib.ListN.{length};
+ghost use Rattle.machine.specs.Store.{absent};
+ghost use Rattle.integer.specs.Sums.{sum24};
 ghost use Rattle.definition.specs.Machine.{machine};
 ghost use Rattle.definition.specs.Bridge.{effectOf};
 ghost use Rattle.running.specs.Cycle.{bitOf, requested, firstRequest, lineOf, bitAlone, lineCleared, entryRecord, enter, fetched, displacement, relative, indexed, address, indirectAbsent, effectiveAddress, operate, fetchRecord, decode, fetch, concluded, cycle};
@@ -121,7 +125,7 @@ fn displacement(d: u32) -> u32
     ensures value { λ r. ⌜ r ≡ displacement d ⌝ }
     ensures bound { λ r. ⌜ r < 16777216 ⌝ }
 {
-    if d < 2048 { d } else { d + 16773120 }
+    ((d + 2048) % 4096 + 16775168) % 16777216
 }
 
 fn relative(m: u32, ic: u32, a: u32) -> u32
@@ -182,13 +186,10 @@ fn operate(s: &mut [u32], c: Control, i: Instruction, a: u32) -> Performed
     requires { ⌜ a < 16777216 ⌝ }
     ensures { λ r. ⌜ effectOf r (now (s .exit)) ≡ operate (now (s .entry)) c i a ⌝ }
 {
-    if is_indirect_absent(s, i.m, a) {
-        return Performed {
-            control: c,
-            completion: Completion::Faulted(Fault::Absent(a)),
-        };
-    }
     let sb = effective_address(s, i.m, a);
+    if is_indirect_absent(s, i.m, a) {
+        return Performed::faulted(c, Fault::Absent(a));
+    }
     dispatch::operate(s, c, i.code, i.w, sb)
 }
 
@@ -209,42 +210,55 @@ fn fetch_record(c: Control, p: bool) -> Control
     }
 }
 
-fn decode(s: &mut [u32], c: Control) -> Performed
+// Test Protection of a cell that is forbidden or not.
+fn is_violation(c: Control, forbidden: bool) -> bool
+    ensures { λ r. ⌜ r ≡ cond (c .monitor) false forbidden ⌝ }
+{
+    if c.monitor { false } else { forbidden }
+}
+
+// v is the instruction at IC.
+fn decode(s: &mut [u32], c: Control, v: u32) -> Performed
+    requires { ⌜ v ≡ fetched (now s) (c .ic) ⌝ }
     ensures { λ r. ⌜ effectOf r (now (s .exit)) ≡ decode (now (s .entry)) c ⌝ }
 {
-    if machine::is_violation(s, c, c.ic / 2) {
+    let p = machine::is_forbidden(s, c, c.ic / 2);
+    if is_violation(c, p) {
         let n = integer::sum24(c.ic, 2);
         let d = machine::with_ic(c, n);
-        return Performed {
-            control: d,
-            completion: Completion::Faulted(Fault::Jump(c.ic)),
-        };
+        return Performed::faulted(d, Fault::Jump(c.ic));
     }
-    let p = machine::is_forbidden(s, c, c.ic / 2);
     let d = fetch_record(c, p);
-    let v = fetched(s, c.ic);
     let i = Instruction::of_word(v);
     let a = address(s, c, i);
     operate(s, d, i, a)
 }
 
+// IC + 1 does not exist, where IC does: never at an even IC, since both are in one cell.
+fn is_next_absent(s: &[u32], ic: u32) -> bool
+    requires { ⌜ ic / 2 < length (now s) ⌝ }
+    ensures { λ r. ⌜ r ≡ absent (now (s .entry)) (sum24 ic 1) ⌝ }
+{
+    if ic % 2 == 0 {
+        return false;
+    }
+    let n = integer::sum24(ic, 1);
+    machine::is_absent(s, n)
+}
+
+// The instruction is read before the tests, where an absent cell reads as 0: so one comparison serves the reading and the test.
 fn fetch(s: &mut [u32], c: Control) -> Performed
     ensures { λ r. ⌜ effectOf r (now (s .exit)) ≡ fetch (now (s .entry)) c ⌝ }
 {
+    let v = fetched(s, c.ic);
     if machine::is_absent(s, c.ic) {
-        return Performed {
-            control: c,
-            completion: Completion::Faulted(Fault::Absent(c.ic)),
-        };
+        return Performed::faulted(c, Fault::Absent(c.ic));
     }
-    let n = integer::sum24(c.ic, 1);
-    if machine::is_absent(s, n) {
-        return Performed {
-            control: c,
-            completion: Completion::Faulted(Fault::Absent(n)),
-        };
+    if is_next_absent(s, c.ic) {
+        let n = integer::sum24(c.ic, 1);
+        return Performed::faulted(c, Fault::Absent(n));
     }
-    decode(s, c)
+    decode(s, c, v)
 }
 
 // An instruction is executed, or its fault is an entry.

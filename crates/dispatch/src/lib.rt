@@ -4,7 +4,6 @@ ghost use mathlib.Core.Path.{_≡_};
 ghost use Prim.Native.Nat.{_<_, _≤_};
 ghost use Rattle.definition.specs.Bridge.{effectOf};
 ghost use Rattle.definition.specs.Codes.{operating};
-use machine::Completion;
 use machine::Control;
 use machine::Fault;
 use machine::Performed;
@@ -47,10 +46,7 @@ fn operate_low(s: &mut [u32], c: Control, f: u32, w: u32, sb: u32) -> Performed
         29 => sequence_instructions::ps(s, c, w, sb),
         30 => sequence_instructions::ms(s, c, w, sb),
         31 => sequence_instructions::is(s, c, w, sb),
-        _ => Performed {
-            control: c,
-            completion: Completion::Faulted(Fault::Unassigned),
-        },
+        _ => Performed::faulted(c, Fault::Unassigned),
     }
 }
 
@@ -86,10 +82,7 @@ fn operate_high(s: &mut [u32], c: Control, f: u32, w: u32, sb: u32) -> Performed
         55 => transfer_instructions::ds(s, c, w, sb),
         56 => integer_instructions::aa(s, c, w, sb),
         57 => integer_instructions::ss(s, c, w, sb),
-        _ => Performed {
-            control: c,
-            completion: Completion::Faulted(Fault::Unassigned),
-        },
+        _ => Performed::faulted(c, Fault::Unassigned),
     }
 }
 

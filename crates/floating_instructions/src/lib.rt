@@ -4,7 +4,6 @@ ghost use Prim.Native.Nat.{_<_};
 ghost use Rattle.definition.specs.Bridge.{effectOf};
 ghost use Rattle.definition.specs.Codes.{executing};
 ghost use Rattle.definition.specs.Meaning.{CI, CF, FA, FS, FM, FD};
-use machine::Completion;
 use machine::Control;
 use machine::Fault;
 use machine::Performed;
@@ -20,10 +19,7 @@ pub fn ci(s: &mut [u32], c: Control, w: u32, sb: u32) -> Performed
     let p = machine::previous_register(w);
     machine::put_long(s, p, r.pre);
     machine::put_long(s, w, r.word);
-    Performed {
-        control: e,
-        completion: Completion::Done,
-    }
+    Performed::done(e)
 }
 
 // Convert Floating to Integer.
@@ -38,10 +34,7 @@ pub fn cf(s: &mut [u32], c: Control, w: u32, sb: u32) -> Performed
     let r = floating::convert_floating(u, x, sb);
     let e = machine::note_overflow(d, r.over, 4194304);
     machine::put_long(s, w, r.word);
-    Performed {
-        control: e,
-        completion: Completion::Done,
-    }
+    Performed::done(e)
 }
 
 // Add Floating.
@@ -50,10 +43,7 @@ pub fn fa(s: &mut [u32], c: Control, w: u32, sb: u32) -> Performed
 {
     let d = machine::clear_flags(c);
     if machine::is_absent(s, sb) {
-        return Performed {
-            control: d,
-            completion: Completion::Faulted(Fault::Absent(sb)),
-        };
+        return Performed::faulted(d, Fault::Absent(sb));
     }
     let p = machine::previous_register(w);
     let x = machine::word_at(s, p);
@@ -65,10 +55,7 @@ pub fn fa(s: &mut [u32], c: Control, w: u32, sb: u32) -> Performed
     let e = machine::note_overflow(d, r.over, 2097152);
     machine::put_long(s, p, r.pre);
     machine::put_long(s, w, r.word);
-    Performed {
-        control: e,
-        completion: Completion::Done,
-    }
+    Performed::done(e)
 }
 
 // Subtract Floating.
@@ -77,10 +64,7 @@ pub fn fs(s: &mut [u32], c: Control, w: u32, sb: u32) -> Performed
 {
     let d = machine::clear_flags(c);
     if machine::is_absent(s, sb) {
-        return Performed {
-            control: d,
-            completion: Completion::Faulted(Fault::Absent(sb)),
-        };
+        return Performed::faulted(d, Fault::Absent(sb));
     }
     let p = machine::previous_register(w);
     let x = machine::word_at(s, p);
@@ -92,10 +76,7 @@ pub fn fs(s: &mut [u32], c: Control, w: u32, sb: u32) -> Performed
     let e = machine::note_overflow(d, r.over, 2097152);
     machine::put_long(s, p, r.pre);
     machine::put_long(s, w, r.word);
-    Performed {
-        control: e,
-        completion: Completion::Done,
-    }
+    Performed::done(e)
 }
 
 // Multiply Floating.
@@ -104,10 +85,7 @@ pub fn fm(s: &mut [u32], c: Control, w: u32, sb: u32) -> Performed
 {
     let d = machine::clear_flags(c);
     if machine::is_absent(s, sb) {
-        return Performed {
-            control: d,
-            completion: Completion::Faulted(Fault::Absent(sb)),
-        };
+        return Performed::faulted(d, Fault::Absent(sb));
     }
     let p = machine::previous_register(w);
     let x = machine::word_at(s, p);
@@ -119,10 +97,7 @@ pub fn fm(s: &mut [u32], c: Control, w: u32, sb: u32) -> Performed
     let e = machine::note_overflow(d, r.over, 2097152);
     machine::put_long(s, p, r.pre);
     machine::put_long(s, w, r.word);
-    Performed {
-        control: e,
-        completion: Completion::Done,
-    }
+    Performed::done(e)
 }
 
 // Divide Floating.
@@ -131,10 +106,7 @@ pub fn fd(s: &mut [u32], c: Control, w: u32, sb: u32) -> Performed
 {
     let d = machine::clear_flags(c);
     if machine::is_absent(s, sb) {
-        return Performed {
-            control: d,
-            completion: Completion::Faulted(Fault::Absent(sb)),
-        };
+        return Performed::faulted(d, Fault::Absent(sb));
     }
     let p = machine::previous_register(w);
     let x = machine::word_at(s, p);
@@ -146,8 +118,5 @@ pub fn fd(s: &mut [u32], c: Control, w: u32, sb: u32) -> Performed
     let e = machine::note_overflow(d, r.over, 2097152);
     machine::put_long(s, p, r.pre);
     machine::put_long(s, w, r.word);
-    Performed {
-        control: e,
-        completion: Completion::Done,
-    }
+    Performed::done(e)
 }

@@ -4,7 +4,6 @@ ghost use Prim.Native.Nat.{_<_};
 ghost use Rattle.definition.specs.Bridge.{effectOf};
 ghost use Rattle.definition.specs.Codes.{executing};
 ghost use Rattle.definition.specs.Meaning.{AC, BA, BS, WA, WS, WM, WD, AA, SS, LA, LO, LX, AS, AD, LS, LD, NS, ND};
-use machine::Completion;
 use machine::Control;
 use machine::Fault;
 use machine::Performed;
@@ -20,10 +19,7 @@ pub fn ac(s: &mut [u32], c: Control, w: u32, sb: u32) -> Performed
     machine::put_word(s, w, r.word);
     let e = machine::note_overflow(d, r.over, 4194304);
     let f = machine::note_carry(e, r.carry);
-    Performed {
-        control: f,
-        completion: Completion::Done,
-    }
+    Performed::done(f)
 }
 
 // Add Integer Byte.
@@ -32,10 +28,7 @@ pub fn ba(s: &mut [u32], c: Control, w: u32, sb: u32) -> Performed
 {
     let d = machine::clear_flags(c);
     if machine::is_absent(s, sb) {
-        return Performed {
-            control: d,
-            completion: Completion::Faulted(Fault::Absent(sb)),
-        };
+        return Performed::faulted(d, Fault::Absent(sb));
     }
     let x = machine::word_at(s, w);
     let b = machine::byte_at(s, sb);
@@ -44,10 +37,7 @@ pub fn ba(s: &mut [u32], c: Control, w: u32, sb: u32) -> Performed
     machine::put_word(s, w, r.word);
     let e = machine::note_overflow(d, r.over, 4194304);
     let f = machine::note_carry(e, r.carry);
-    Performed {
-        control: f,
-        completion: Completion::Done,
-    }
+    Performed::done(f)
 }
 
 // Subtract Integer Byte.
@@ -56,10 +46,7 @@ pub fn bs(s: &mut [u32], c: Control, w: u32, sb: u32) -> Performed
 {
     let d = machine::clear_flags(c);
     if machine::is_absent(s, sb) {
-        return Performed {
-            control: d,
-            completion: Completion::Faulted(Fault::Absent(sb)),
-        };
+        return Performed::faulted(d, Fault::Absent(sb));
     }
     let x = machine::word_at(s, w);
     let b = machine::byte_at(s, sb);
@@ -68,10 +55,7 @@ pub fn bs(s: &mut [u32], c: Control, w: u32, sb: u32) -> Performed
     machine::put_word(s, w, r.word);
     let e = machine::note_overflow(d, r.over, 4194304);
     let f = machine::note_carry(e, r.carry);
-    Performed {
-        control: f,
-        completion: Completion::Done,
-    }
+    Performed::done(f)
 }
 
 // Add Integer Word.
@@ -80,10 +64,7 @@ pub fn wa(s: &mut [u32], c: Control, w: u32, sb: u32) -> Performed
 {
     let d = machine::clear_flags(c);
     if machine::is_absent(s, sb) {
-        return Performed {
-            control: d,
-            completion: Completion::Faulted(Fault::Absent(sb)),
-        };
+        return Performed::faulted(d, Fault::Absent(sb));
     }
     let x = machine::word_at(s, w);
     let y = machine::word_at(s, sb / 2);
@@ -91,10 +72,7 @@ pub fn wa(s: &mut [u32], c: Control, w: u32, sb: u32) -> Performed
     machine::put_word(s, w, r.word);
     let e = machine::note_overflow(d, r.over, 4194304);
     let f = machine::note_carry(e, r.carry);
-    Performed {
-        control: f,
-        completion: Completion::Done,
-    }
+    Performed::done(f)
 }
 
 // Subtract Integer Word.
@@ -103,10 +81,7 @@ pub fn ws(s: &mut [u32], c: Control, w: u32, sb: u32) -> Performed
 {
     let d = machine::clear_flags(c);
     if machine::is_absent(s, sb) {
-        return Performed {
-            control: d,
-            completion: Completion::Faulted(Fault::Absent(sb)),
-        };
+        return Performed::faulted(d, Fault::Absent(sb));
     }
     let x = machine::word_at(s, w);
     let y = machine::word_at(s, sb / 2);
@@ -114,10 +89,7 @@ pub fn ws(s: &mut [u32], c: Control, w: u32, sb: u32) -> Performed
     machine::put_word(s, w, r.word);
     let e = machine::note_overflow(d, r.over, 4194304);
     let f = machine::note_carry(e, r.carry);
-    Performed {
-        control: f,
-        completion: Completion::Done,
-    }
+    Performed::done(f)
 }
 
 // Multiply Integer Word: EX is unchanged.
@@ -125,10 +97,7 @@ pub fn wm(s: &mut [u32], c: Control, w: u32, sb: u32) -> Performed
     ensures { λ r. ⌜ effectOf r (now (s .exit)) ≡ executing WM w sb (now (s .entry)) c ⌝ }
 {
     if machine::is_absent(s, sb) {
-        return Performed {
-            control: c,
-            completion: Completion::Faulted(Fault::Absent(sb)),
-        };
+        return Performed::faulted(c, Fault::Absent(sb));
     }
     let x = machine::word_at(s, w);
     let y = machine::word_at(s, sb / 2);
@@ -136,10 +105,7 @@ pub fn wm(s: &mut [u32], c: Control, w: u32, sb: u32) -> Performed
     let p = machine::previous_register(w);
     machine::put_long(s, p, r / 16777216);
     machine::put_long(s, w, r);
-    Performed {
-        control: c,
-        completion: Completion::Done,
-    }
+    Performed::done(c)
 }
 
 // Divide Integer Word.
@@ -148,10 +114,7 @@ pub fn wd(s: &mut [u32], c: Control, w: u32, sb: u32) -> Performed
 {
     let d = machine::clear_flags(c);
     if machine::is_absent(s, sb) {
-        return Performed {
-            control: d,
-            completion: Completion::Faulted(Fault::Absent(sb)),
-        };
+        return Performed::faulted(d, Fault::Absent(sb));
     }
     let p = machine::previous_register(w);
     let u = machine::word_at(s, p);
@@ -161,10 +124,7 @@ pub fn wd(s: &mut [u32], c: Control, w: u32, sb: u32) -> Performed
     let e = machine::note_overflow(d, r.over, 4194304);
     machine::put_word(s, p, r.pre);
     machine::put_word(s, w, r.word);
-    Performed {
-        control: e,
-        completion: Completion::Done,
-    }
+    Performed::done(e)
 }
 
 // Add Integer Double Word: the first word is read after W was written.
@@ -173,10 +133,7 @@ pub fn aa(s: &mut [u32], c: Control, w: u32, sb: u32) -> Performed
 {
     let d = machine::clear_flags(c);
     if machine::is_absent(s, sb) {
-        return Performed {
-            control: d,
-            completion: Completion::Faulted(Fault::Absent(sb)),
-        };
+        return Performed::faulted(d, Fault::Absent(sb));
     }
     let x = machine::word_at(s, w);
     let y = machine::word_at(s, sb / 2);
@@ -190,10 +147,7 @@ pub fn aa(s: &mut [u32], c: Control, w: u32, sb: u32) -> Performed
     machine::put_word(s, p, q.word);
     let e = machine::note_overflow(d, q.over, 4194304);
     let f = machine::note_carry(e, q.carry);
-    Performed {
-        control: f,
-        completion: Completion::Done,
-    }
+    Performed::done(f)
 }
 
 // Subtract Integer Double Word: the first word is read after W was written.
@@ -202,10 +156,7 @@ pub fn ss(s: &mut [u32], c: Control, w: u32, sb: u32) -> Performed
 {
     let d = machine::clear_flags(c);
     if machine::is_absent(s, sb) {
-        return Performed {
-            control: d,
-            completion: Completion::Faulted(Fault::Absent(sb)),
-        };
+        return Performed::faulted(d, Fault::Absent(sb));
     }
     let x = machine::word_at(s, w);
     let y = machine::word_at(s, sb / 2);
@@ -219,10 +170,7 @@ pub fn ss(s: &mut [u32], c: Control, w: u32, sb: u32) -> Performed
     machine::put_word(s, p, q.word);
     let e = machine::note_overflow(d, q.over, 4194304);
     let f = machine::note_carry(e, q.carry);
-    Performed {
-        control: f,
-        completion: Completion::Done,
-    }
+    Performed::done(f)
 }
 
 // Logical And.
@@ -230,19 +178,13 @@ pub fn la(s: &mut [u32], c: Control, w: u32, sb: u32) -> Performed
     ensures { λ r. ⌜ effectOf r (now (s .exit)) ≡ executing LA w sb (now (s .entry)) c ⌝ }
 {
     if machine::is_absent(s, sb) {
-        return Performed {
-            control: c,
-            completion: Completion::Faulted(Fault::Absent(sb)),
-        };
+        return Performed::faulted(c, Fault::Absent(sb));
     }
     let x = machine::word_at(s, w);
     let y = machine::word_at(s, sb / 2);
     let r = integer::and24(x, y);
     machine::put_word(s, w, r);
-    Performed {
-        control: c,
-        completion: Completion::Done,
-    }
+    Performed::done(c)
 }
 
 // Logical Or.
@@ -250,19 +192,13 @@ pub fn lo(s: &mut [u32], c: Control, w: u32, sb: u32) -> Performed
     ensures { λ r. ⌜ effectOf r (now (s .exit)) ≡ executing LO w sb (now (s .entry)) c ⌝ }
 {
     if machine::is_absent(s, sb) {
-        return Performed {
-            control: c,
-            completion: Completion::Faulted(Fault::Absent(sb)),
-        };
+        return Performed::faulted(c, Fault::Absent(sb));
     }
     let x = machine::word_at(s, w);
     let y = machine::word_at(s, sb / 2);
     let r = integer::or24(x, y);
     machine::put_word(s, w, r);
-    Performed {
-        control: c,
-        completion: Completion::Done,
-    }
+    Performed::done(c)
 }
 
 // Logical Exclusive Or.
@@ -270,19 +206,13 @@ pub fn lx(s: &mut [u32], c: Control, w: u32, sb: u32) -> Performed
     ensures { λ r. ⌜ effectOf r (now (s .exit)) ≡ executing LX w sb (now (s .entry)) c ⌝ }
 {
     if machine::is_absent(s, sb) {
-        return Performed {
-            control: c,
-            completion: Completion::Faulted(Fault::Absent(sb)),
-        };
+        return Performed::faulted(c, Fault::Absent(sb));
     }
     let x = machine::word_at(s, w);
     let y = machine::word_at(s, sb / 2);
     let r = integer::xor24(x, y);
     machine::put_word(s, w, r);
-    Performed {
-        control: c,
-        completion: Completion::Done,
-    }
+    Performed::done(c)
 }
 
 // Shift Single Arithmetically (AS; `as` is a word of the language).
@@ -295,10 +225,7 @@ pub fn shift_as(s: &mut [u32], c: Control, w: u32, sb: u32) -> Performed
     let r = shift::arithmetic24(sb, x);
     let e = machine::note_overflow(d, r.over, 4194304);
     machine::put_long(s, w, r.word);
-    Performed {
-        control: e,
-        completion: Completion::Done,
-    }
+    Performed::done(e)
 }
 
 // Shift Double Arithmetically.
@@ -313,10 +240,7 @@ pub fn ad(s: &mut [u32], c: Control, w: u32, sb: u32) -> Performed
     let p = machine::previous_register(w);
     machine::put_long(s, p, r.word / 16777216);
     machine::put_long(s, w, r.word);
-    Performed {
-        control: e,
-        completion: Completion::Done,
-    }
+    Performed::done(e)
 }
 
 // Shift Single Logically.
@@ -327,10 +251,7 @@ pub fn ls(s: &mut [u32], c: Control, w: u32, sb: u32) -> Performed
     let x = machine::word_at(s, w);
     let r = shift::logical24(sb, x);
     machine::put_word(s, w, r);
-    Performed {
-        control: c,
-        completion: Completion::Done,
-    }
+    Performed::done(c)
 }
 
 // Shift Double Logically.
@@ -343,10 +264,7 @@ pub fn ld(s: &mut [u32], c: Control, w: u32, sb: u32) -> Performed
     let p = machine::previous_register(w);
     machine::put_long(s, p, r / 16777216);
     machine::put_long(s, w, r);
-    Performed {
-        control: c,
-        completion: Completion::Done,
-    }
+    Performed::done(c)
 }
 
 // Normalize Single: the byte is stored after the shift.
@@ -357,22 +275,13 @@ pub fn ns(s: &mut [u32], c: Control, w: u32, sb: u32) -> Performed
     let r = normalize::normalize_single(x);
     machine::put_long(s, w, r.word);
     if machine::is_absent(s, sb) {
-        return Performed {
-            control: c,
-            completion: Completion::Faulted(Fault::Absent(sb)),
-        };
+        return Performed::faulted(c, Fault::Absent(sb));
     }
     if machine::is_violation(s, c, sb / 2) {
-        return Performed {
-            control: c,
-            completion: Completion::Faulted(Fault::Store(sb)),
-        };
+        return Performed::faulted(c, Fault::Store(sb));
     }
     machine::put_byte(s, sb, r.shifts);
-    Performed {
-        control: c,
-        completion: Completion::Done,
-    }
+    Performed::done(c)
 }
 
 // Normalize Double: the byte is stored after the shift.
@@ -385,20 +294,11 @@ pub fn nd(s: &mut [u32], c: Control, w: u32, sb: u32) -> Performed
     machine::put_long(s, p, r.word / 16777216);
     machine::put_long(s, w, r.word);
     if machine::is_absent(s, sb) {
-        return Performed {
-            control: c,
-            completion: Completion::Faulted(Fault::Absent(sb)),
-        };
+        return Performed::faulted(c, Fault::Absent(sb));
     }
     if machine::is_violation(s, c, sb / 2) {
-        return Performed {
-            control: c,
-            completion: Completion::Faulted(Fault::Store(sb)),
-        };
+        return Performed::faulted(c, Fault::Store(sb));
     }
     machine::put_byte(s, sb, r.shifts);
-    Performed {
-        control: c,
-        completion: Completion::Done,
-    }
+    Performed::done(c)
 }

@@ -6,7 +6,7 @@ ghost use lib.ListN.{getD, set};
 ghost use Rattle.machine.specs.Store.{word, pair, key, putWord, putKey, byte, withByte, putByte, putLink, absent, forbids, forbidden, violation, firstWord, previous};
 ghost use Rattle.machine.specs.Fields.{inTask, withIC, withIR, withIM, withPending, withPR, withEX, withEnabled, raised, flagsCleared, overflowed, carrySet};
 ghost use Rattle.machine.specs.Records.{freshRecord, resetRecord};
-ghost use Rattle.machine.specs.Answers.{refusalNumber, kindNumber};
+ghost use Rattle.machine.specs.Answers.{refusalNumber, kindNumber, performed};
 ghost use Rattle.machine.specs.Format.{takenApart};
 
 // The control record (document 01, "The machine").
@@ -198,6 +198,47 @@ pub struct Performed {
     pub completion: Completion,
 }
 
+// Every field is named: a record that is copied whole keeps its flags in memory.
+impl Performed {
+    pub fn done(c: Control) -> Performed
+        ensures { λ r. ⌜ r ≡ performed Completion.Done c ⌝ }
+    {
+        Performed {
+            control: Control {
+                ic: c.ic,
+                ir: c.ir,
+                im: c.im,
+                pending: c.pending,
+                pr: c.pr,
+                ex: c.ex,
+                monitor: c.monitor,
+                enabled: c.enabled,
+                reset: c.reset,
+            },
+            completion: Completion::Done,
+        }
+    }
+
+    pub fn faulted(c: Control, f: Fault) -> Performed
+        ensures { λ r. ⌜ r ≡ performed (Completion.Faulted f) c ⌝ }
+    {
+        Performed {
+            control: Control {
+                ic: c.ic,
+                ir: c.ir,
+                im: c.im,
+                pending: c.pending,
+                pr: c.pr,
+                ex: c.ex,
+                monitor: c.monitor,
+                enabled: c.enabled,
+                reset: c.reset,
+            },
+            completion: Completion::Faulted(f),
+        }
+    }
+}
+
 // How a cycle ended.
 pub enum CycleEnd {
     Executed,
@@ -347,7 +388,7 @@ pub fn is_absent(s: &[u32], a: u32) -> bool
 pub fn is_key_forbidden(pr: u32, k: u32) -> bool
     ensures { λ r. ⌜ r ≡ forbids pr k ⌝ }
 {
-    (pr >> (7 - k % 8)) % 2 == 1
+    (pr << (k % 8)) / 128 % 2 == 1
 }
 
 // The cell is forbidden, whatever the mode.

@@ -5,7 +5,6 @@ ghost use Rattle.definition.specs.Bridge.{effectOf};
 ghost use Rattle.definition.specs.Codes.{executing};
 ghost use Rattle.definition.specs.Meaning.{JL, SH, SL, SE, SN, SO, SZ, SX, SP, JE, JD, IC, IS, ML, MS, XL, XS, PL, PS, KL, KS, IO, AW};
 ghost use Rattle.definition.specs.MicroOps.{skipped};
-use machine::Completion;
 use machine::Control;
 use machine::Fault;
 use machine::Performed;
@@ -26,23 +25,14 @@ pub fn jl(s: &mut [u32], c: Control, w: u32, sb: u32) -> Performed
     ensures { λ r. ⌜ effectOf r (now (s .exit)) ≡ executing JL w sb (now (s .entry)) c ⌝ }
 {
     if machine::is_absent(s, sb) {
-        return Performed {
-            control: c,
-            completion: Completion::Faulted(Fault::Absent(sb)),
-        };
+        return Performed::faulted(c, Fault::Absent(sb));
     }
     if machine::is_violation(s, c, sb / 2) {
-        return Performed {
-            control: c,
-            completion: Completion::Faulted(Fault::Jump(sb)),
-        };
+        return Performed::faulted(c, Fault::Jump(sb));
     }
     machine::put_link(s, w, c.ic);
     let d = machine::with_ic(c, sb / 2 * 2);
-    Performed {
-        control: d,
-        completion: Completion::Done,
-    }
+    Performed::done(d)
 }
 
 // Skip if Register High.
@@ -53,10 +43,7 @@ pub fn sh(s: &mut [u32], c: Control, w: u32, sb: u32) -> Performed
     let x = machine::word_at(s, w);
     let t = integer::is_high(x, sb);
     let d = skip_if(c, t);
-    Performed {
-        control: d,
-        completion: Completion::Done,
-    }
+    Performed::done(d)
 }
 
 // Skip if Register Low.
@@ -67,10 +54,7 @@ pub fn sl(s: &mut [u32], c: Control, w: u32, sb: u32) -> Performed
     let x = machine::word_at(s, w);
     let t = integer::is_low(x, sb);
     let d = skip_if(c, t);
-    Performed {
-        control: d,
-        completion: Completion::Done,
-    }
+    Performed::done(d)
 }
 
 // Skip if Register Equal.
@@ -81,10 +65,7 @@ pub fn se(s: &mut [u32], c: Control, w: u32, sb: u32) -> Performed
     let x = machine::word_at(s, w);
     let t = integer::is_equal(x, sb);
     let d = skip_if(c, t);
-    Performed {
-        control: d,
-        completion: Completion::Done,
-    }
+    Performed::done(d)
 }
 
 // Skip if Register Not Equal.
@@ -95,10 +76,7 @@ pub fn sn(s: &mut [u32], c: Control, w: u32, sb: u32) -> Performed
     let x = machine::word_at(s, w);
     let t = integer::is_not_equal(x, sb);
     let d = skip_if(c, t);
-    Performed {
-        control: d,
-        completion: Completion::Done,
-    }
+    Performed::done(d)
 }
 
 // Skip if Register Bits One.
@@ -109,10 +87,7 @@ pub fn so(s: &mut [u32], c: Control, w: u32, sb: u32) -> Performed
     let x = machine::word_at(s, w);
     let t = integer::bits_one(x, sb);
     let d = skip_if(c, t);
-    Performed {
-        control: d,
-        completion: Completion::Done,
-    }
+    Performed::done(d)
 }
 
 // Skip if Register Bits Zero.
@@ -123,10 +98,7 @@ pub fn sz(s: &mut [u32], c: Control, w: u32, sb: u32) -> Performed
     let x = machine::word_at(s, w);
     let t = integer::bits_zero(x, sb);
     let d = skip_if(c, t);
-    Performed {
-        control: d,
-        completion: Completion::Done,
-    }
+    Performed::done(d)
 }
 
 // Skip if No Exceptions.
@@ -136,10 +108,7 @@ pub fn sx(s: &mut [u32], c: Control, w: u32, sb: u32) -> Performed
 {
     let t = integer::bits_zero(c.ex % 8, sb);
     let d = skip_if(c, t);
-    Performed {
-        control: d,
-        completion: Completion::Done,
-    }
+    Performed::done(d)
 }
 
 // Skip if No Protection.
@@ -147,17 +116,11 @@ pub fn sp(s: &mut [u32], c: Control, w: u32, sb: u32) -> Performed
     ensures { λ r. ⌜ effectOf r (now (s .exit)) ≡ executing SP w sb (now (s .entry)) c ⌝ }
 {
     if machine::is_absent(s, sb) {
-        return Performed {
-            control: c,
-            completion: Completion::Faulted(Fault::Absent(sb)),
-        };
+        return Performed::faulted(c, Fault::Absent(sb));
     }
     let p = machine::is_forbidden(s, c, sb / 2);
     let d = skip_if(c, !p);
-    Performed {
-        control: d,
-        completion: Completion::Done,
-    }
+    Performed::done(d)
 }
 
 // Jump with Interrupt Enabled.
@@ -165,24 +128,15 @@ pub fn je(s: &mut [u32], c: Control, w: u32, sb: u32) -> Performed
     ensures { λ r. ⌜ effectOf r (now (s .exit)) ≡ executing JE w sb (now (s .entry)) c ⌝ }
 {
     if machine::is_task(c) {
-        return Performed {
-            control: c,
-            completion: Completion::Faulted(Fault::Privileged),
-        };
+        return Performed::faulted(c, Fault::Privileged);
     }
     if machine::is_absent(s, sb) {
-        return Performed {
-            control: c,
-            completion: Completion::Faulted(Fault::Absent(sb)),
-        };
+        return Performed::faulted(c, Fault::Absent(sb));
     }
     let d = machine::with_enabled(c, true);
     machine::put_link(s, w, d.ic);
     let e = machine::with_ic(d, sb / 2 * 2);
-    Performed {
-        control: e,
-        completion: Completion::Done,
-    }
+    Performed::done(e)
 }
 
 // Jump with Interrupt Disabled.
@@ -190,24 +144,15 @@ pub fn jd(s: &mut [u32], c: Control, w: u32, sb: u32) -> Performed
     ensures { λ r. ⌜ effectOf r (now (s .exit)) ≡ executing JD w sb (now (s .entry)) c ⌝ }
 {
     if machine::is_task(c) {
-        return Performed {
-            control: c,
-            completion: Completion::Faulted(Fault::Privileged),
-        };
+        return Performed::faulted(c, Fault::Privileged);
     }
     if machine::is_absent(s, sb) {
-        return Performed {
-            control: c,
-            completion: Completion::Faulted(Fault::Absent(sb)),
-        };
+        return Performed::faulted(c, Fault::Absent(sb));
     }
     let d = machine::with_enabled(c, false);
     machine::put_link(s, w, d.ic);
     let e = machine::with_ic(d, sb / 2 * 2);
-    Performed {
-        control: e,
-        completion: Completion::Done,
-    }
+    Performed::done(e)
 }
 
 // Clear Interrupt Bits.
@@ -216,17 +161,11 @@ pub fn ic(s: &mut [u32], c: Control, w: u32, sb: u32) -> Performed
     ensures { λ r. ⌜ effectOf r (now (s .exit)) ≡ executing IC w sb (now (s .entry)) c ⌝ }
 {
     if machine::is_task(c) {
-        return Performed {
-            control: c,
-            completion: Completion::Faulted(Fault::Privileged),
-        };
+        return Performed::faulted(c, Fault::Privileged);
     }
     let r = integer::clear24(c.ir % 16777216, sb);
     let d = machine::with_ir(c, r);
-    Performed {
-        control: d,
-        completion: Completion::Done,
-    }
+    Performed::done(d)
 }
 
 // Store Interrupt Register.
@@ -234,22 +173,13 @@ pub fn is(s: &mut [u32], c: Control, w: u32, sb: u32) -> Performed
     ensures { λ r. ⌜ effectOf r (now (s .exit)) ≡ executing IS w sb (now (s .entry)) c ⌝ }
 {
     if machine::is_absent(s, sb) {
-        return Performed {
-            control: c,
-            completion: Completion::Faulted(Fault::Absent(sb)),
-        };
+        return Performed::faulted(c, Fault::Absent(sb));
     }
     if machine::is_violation(s, c, sb / 2) {
-        return Performed {
-            control: c,
-            completion: Completion::Faulted(Fault::Store(sb)),
-        };
+        return Performed::faulted(c, Fault::Store(sb));
     }
     machine::put_word(s, sb / 2, c.ir);
-    Performed {
-        control: c,
-        completion: Completion::Done,
-    }
+    Performed::done(c)
 }
 
 // Load Mask Register: IM(0) is always one.
@@ -257,23 +187,14 @@ pub fn ml(s: &mut [u32], c: Control, w: u32, sb: u32) -> Performed
     ensures { λ r. ⌜ effectOf r (now (s .exit)) ≡ executing ML w sb (now (s .entry)) c ⌝ }
 {
     if machine::is_task(c) {
-        return Performed {
-            control: c,
-            completion: Completion::Faulted(Fault::Privileged),
-        };
+        return Performed::faulted(c, Fault::Privileged);
     }
     if machine::is_absent(s, sb) {
-        return Performed {
-            control: c,
-            completion: Completion::Faulted(Fault::Absent(sb)),
-        };
+        return Performed::faulted(c, Fault::Absent(sb));
     }
     let y = machine::word_at(s, sb / 2);
     let d = machine::with_im(c, 8388608 + y % 8388608);
-    Performed {
-        control: d,
-        completion: Completion::Done,
-    }
+    Performed::done(d)
 }
 
 // Store Mask Register.
@@ -281,22 +202,13 @@ pub fn ms(s: &mut [u32], c: Control, w: u32, sb: u32) -> Performed
     ensures { λ r. ⌜ effectOf r (now (s .exit)) ≡ executing MS w sb (now (s .entry)) c ⌝ }
 {
     if machine::is_absent(s, sb) {
-        return Performed {
-            control: c,
-            completion: Completion::Faulted(Fault::Absent(sb)),
-        };
+        return Performed::faulted(c, Fault::Absent(sb));
     }
     if machine::is_violation(s, c, sb / 2) {
-        return Performed {
-            control: c,
-            completion: Completion::Faulted(Fault::Store(sb)),
-        };
+        return Performed::faulted(c, Fault::Store(sb));
     }
     machine::put_word(s, sb / 2, c.im);
-    Performed {
-        control: c,
-        completion: Completion::Done,
-    }
+    Performed::done(c)
 }
 
 // Load Exception Register.
@@ -304,17 +216,11 @@ pub fn xl(s: &mut [u32], c: Control, w: u32, sb: u32) -> Performed
     ensures { λ r. ⌜ effectOf r (now (s .exit)) ≡ executing XL w sb (now (s .entry)) c ⌝ }
 {
     if machine::is_absent(s, sb) {
-        return Performed {
-            control: c,
-            completion: Completion::Faulted(Fault::Absent(sb)),
-        };
+        return Performed::faulted(c, Fault::Absent(sb));
     }
     let b = machine::byte_at(s, sb);
     let d = machine::with_ex(c, b);
-    Performed {
-        control: d,
-        completion: Completion::Done,
-    }
+    Performed::done(d)
 }
 
 // Store Exception Register.
@@ -322,22 +228,13 @@ pub fn xs(s: &mut [u32], c: Control, w: u32, sb: u32) -> Performed
     ensures { λ r. ⌜ effectOf r (now (s .exit)) ≡ executing XS w sb (now (s .entry)) c ⌝ }
 {
     if machine::is_absent(s, sb) {
-        return Performed {
-            control: c,
-            completion: Completion::Faulted(Fault::Absent(sb)),
-        };
+        return Performed::faulted(c, Fault::Absent(sb));
     }
     if machine::is_violation(s, c, sb / 2) {
-        return Performed {
-            control: c,
-            completion: Completion::Faulted(Fault::Store(sb)),
-        };
+        return Performed::faulted(c, Fault::Store(sb));
     }
     machine::put_byte(s, sb, c.ex);
-    Performed {
-        control: c,
-        completion: Completion::Done,
-    }
+    Performed::done(c)
 }
 
 // Load Protection Register.
@@ -345,23 +242,14 @@ pub fn pl(s: &mut [u32], c: Control, w: u32, sb: u32) -> Performed
     ensures { λ r. ⌜ effectOf r (now (s .exit)) ≡ executing PL w sb (now (s .entry)) c ⌝ }
 {
     if machine::is_task(c) {
-        return Performed {
-            control: c,
-            completion: Completion::Faulted(Fault::Privileged),
-        };
+        return Performed::faulted(c, Fault::Privileged);
     }
     if machine::is_absent(s, sb) {
-        return Performed {
-            control: c,
-            completion: Completion::Faulted(Fault::Absent(sb)),
-        };
+        return Performed::faulted(c, Fault::Absent(sb));
     }
     let b = machine::byte_at(s, sb);
     let d = machine::with_pr(c, b);
-    Performed {
-        control: d,
-        completion: Completion::Done,
-    }
+    Performed::done(d)
 }
 
 // Store Protection Register.
@@ -369,22 +257,13 @@ pub fn ps(s: &mut [u32], c: Control, w: u32, sb: u32) -> Performed
     ensures { λ r. ⌜ effectOf r (now (s .exit)) ≡ executing PS w sb (now (s .entry)) c ⌝ }
 {
     if machine::is_absent(s, sb) {
-        return Performed {
-            control: c,
-            completion: Completion::Faulted(Fault::Absent(sb)),
-        };
+        return Performed::faulted(c, Fault::Absent(sb));
     }
     if machine::is_violation(s, c, sb / 2) {
-        return Performed {
-            control: c,
-            completion: Completion::Faulted(Fault::Store(sb)),
-        };
+        return Performed::faulted(c, Fault::Store(sb));
     }
     machine::put_byte(s, sb, c.pr);
-    Performed {
-        control: c,
-        completion: Completion::Done,
-    }
+    Performed::done(c)
 }
 
 // Load Protection Key.
@@ -392,17 +271,11 @@ pub fn kl(s: &mut [u32], c: Control, w: u32, sb: u32) -> Performed
     ensures { λ r. ⌜ effectOf r (now (s .exit)) ≡ executing KL w sb (now (s .entry)) c ⌝ }
 {
     if machine::is_absent(s, sb) {
-        return Performed {
-            control: c,
-            completion: Completion::Faulted(Fault::Absent(sb)),
-        };
+        return Performed::faulted(c, Fault::Absent(sb));
     }
     let k = machine::key_at(s, sb / 2);
     machine::put_word(s, w, k);
-    Performed {
-        control: c,
-        completion: Completion::Done,
-    }
+    Performed::done(c)
 }
 
 // Store Protection Key.
@@ -410,23 +283,14 @@ pub fn ks(s: &mut [u32], c: Control, w: u32, sb: u32) -> Performed
     ensures { λ r. ⌜ effectOf r (now (s .exit)) ≡ executing KS w sb (now (s .entry)) c ⌝ }
 {
     if machine::is_task(c) {
-        return Performed {
-            control: c,
-            completion: Completion::Faulted(Fault::Privileged),
-        };
+        return Performed::faulted(c, Fault::Privileged);
     }
     if machine::is_absent(s, sb) {
-        return Performed {
-            control: c,
-            completion: Completion::Faulted(Fault::Absent(sb)),
-        };
+        return Performed::faulted(c, Fault::Absent(sb));
     }
     let x = machine::word_at(s, w);
     machine::put_key(s, sb / 2, x);
-    Performed {
-        control: c,
-        completion: Completion::Done,
-    }
+    Performed::done(c)
 }
 
 // Input/Output: every device is disconnected.
@@ -434,16 +298,10 @@ pub fn io(s: &mut [u32], c: Control, w: u32, sb: u32) -> Performed
     ensures { λ r. ⌜ effectOf r (now (s .exit)) ≡ executing IO w sb (now (s .entry)) c ⌝ }
 {
     if machine::is_task(c) {
-        return Performed {
-            control: c,
-            completion: Completion::Faulted(Fault::Privileged),
-        };
+        return Performed::faulted(c, Fault::Privileged);
     }
     let d = machine::with_ex(c, c.ex / 4 * 4 + 2);
-    Performed {
-        control: d,
-        completion: Completion::Done,
-    }
+    Performed::done(d)
 }
 
 // Autoload Word: device 0 is disconnected, so the system is reset.
@@ -451,15 +309,9 @@ pub fn aw(s: &mut [u32], c: Control, w: u32, sb: u32) -> Performed
     ensures { λ r. ⌜ effectOf r (now (s .exit)) ≡ executing AW w sb (now (s .entry)) c ⌝ }
 {
     if machine::is_task(c) {
-        return Performed {
-            control: c,
-            completion: Completion::Faulted(Fault::Privileged),
-        };
+        return Performed::faulted(c, Fault::Privileged);
     }
     machine::put_word(s, Control::RETURN_ADDRESS / 2, c.ic);
     let d = c.in_reset();
-    Performed {
-        control: d,
-        completion: Completion::Done,
-    }
+    Performed::done(d)
 }

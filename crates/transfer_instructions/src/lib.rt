@@ -5,7 +5,6 @@ ghost use Rattle.definition.specs.Bridge.{effectOf};
 ghost use Rattle.definition.specs.Codes.{executing};
 ghost use Rattle.definition.specs.Meaning.{AM, AL, HL, HS, RL, RS, RX, DL, DS, BZ, BL};
 ghost use Rattle.definition.specs.Operands.{extended};
-use machine::Completion;
 use machine::Control;
 use machine::Fault;
 use machine::Performed;
@@ -24,10 +23,7 @@ pub fn am(s: &mut [u32], c: Control, w: u32, sb: u32) -> Performed
     ensures { λ r. ⌜ effectOf r (now (s .exit)) ≡ executing AM w sb (now (s .entry)) c ⌝ }
 {
     let d = machine::with_pending(c, sb);
-    Performed {
-        control: d,
-        completion: Completion::Done,
-    }
+    Performed::done(d)
 }
 
 // Load Address.
@@ -35,10 +31,7 @@ pub fn al(s: &mut [u32], c: Control, w: u32, sb: u32) -> Performed
     ensures { λ r. ⌜ effectOf r (now (s .exit)) ≡ executing AL w sb (now (s .entry)) c ⌝ }
 {
     machine::put_word(s, w, sb);
-    Performed {
-        control: c,
-        completion: Completion::Done,
-    }
+    Performed::done(c)
 }
 
 // Load Half Register.
@@ -46,18 +39,12 @@ pub fn hl(s: &mut [u32], c: Control, w: u32, sb: u32) -> Performed
     ensures { λ r. ⌜ effectOf r (now (s .exit)) ≡ executing HL w sb (now (s .entry)) c ⌝ }
 {
     if machine::is_absent(s, sb) {
-        return Performed {
-            control: c,
-            completion: Completion::Faulted(Fault::Absent(sb)),
-        };
+        return Performed::faulted(c, Fault::Absent(sb));
     }
     let x = machine::word_at(s, w);
     let b = machine::byte_at(s, sb);
     machine::put_word(s, w, x / 4096 * 4096 + b);
-    Performed {
-        control: c,
-        completion: Completion::Done,
-    }
+    Performed::done(c)
 }
 
 // Store Half Register.
@@ -65,23 +52,14 @@ pub fn hs(s: &mut [u32], c: Control, w: u32, sb: u32) -> Performed
     ensures { λ r. ⌜ effectOf r (now (s .exit)) ≡ executing HS w sb (now (s .entry)) c ⌝ }
 {
     if machine::is_absent(s, sb) {
-        return Performed {
-            control: c,
-            completion: Completion::Faulted(Fault::Absent(sb)),
-        };
+        return Performed::faulted(c, Fault::Absent(sb));
     }
     if machine::is_violation(s, c, sb / 2) {
-        return Performed {
-            control: c,
-            completion: Completion::Faulted(Fault::Store(sb)),
-        };
+        return Performed::faulted(c, Fault::Store(sb));
     }
     let x = machine::word_at(s, w);
     machine::put_byte(s, sb, x);
-    Performed {
-        control: c,
-        completion: Completion::Done,
-    }
+    Performed::done(c)
 }
 
 // Load Register.
@@ -89,17 +67,11 @@ pub fn rl(s: &mut [u32], c: Control, w: u32, sb: u32) -> Performed
     ensures { λ r. ⌜ effectOf r (now (s .exit)) ≡ executing RL w sb (now (s .entry)) c ⌝ }
 {
     if machine::is_absent(s, sb) {
-        return Performed {
-            control: c,
-            completion: Completion::Faulted(Fault::Absent(sb)),
-        };
+        return Performed::faulted(c, Fault::Absent(sb));
     }
     let y = machine::word_at(s, sb / 2);
     machine::put_word(s, w, y);
-    Performed {
-        control: c,
-        completion: Completion::Done,
-    }
+    Performed::done(c)
 }
 
 // Store Register.
@@ -107,23 +79,14 @@ pub fn rs(s: &mut [u32], c: Control, w: u32, sb: u32) -> Performed
     ensures { λ r. ⌜ effectOf r (now (s .exit)) ≡ executing RS w sb (now (s .entry)) c ⌝ }
 {
     if machine::is_absent(s, sb) {
-        return Performed {
-            control: c,
-            completion: Completion::Faulted(Fault::Absent(sb)),
-        };
+        return Performed::faulted(c, Fault::Absent(sb));
     }
     if machine::is_violation(s, c, sb / 2) {
-        return Performed {
-            control: c,
-            completion: Completion::Faulted(Fault::Store(sb)),
-        };
+        return Performed::faulted(c, Fault::Store(sb));
     }
     let x = machine::word_at(s, w);
     machine::put_word(s, sb / 2, x);
-    Performed {
-        control: c,
-        completion: Completion::Done,
-    }
+    Performed::done(c)
 }
 
 // Exchange Register and Store: W is loaded before Test Protection.
@@ -131,25 +94,16 @@ pub fn rx(s: &mut [u32], c: Control, w: u32, sb: u32) -> Performed
     ensures { λ r. ⌜ effectOf r (now (s .exit)) ≡ executing RX w sb (now (s .entry)) c ⌝ }
 {
     if machine::is_absent(s, sb) {
-        return Performed {
-            control: c,
-            completion: Completion::Faulted(Fault::Absent(sb)),
-        };
+        return Performed::faulted(c, Fault::Absent(sb));
     }
     let x = machine::word_at(s, w);
     let y = machine::word_at(s, sb / 2);
     machine::put_word(s, w, y);
     if machine::is_violation(s, c, sb / 2) {
-        return Performed {
-            control: c,
-            completion: Completion::Faulted(Fault::Store(sb)),
-        };
+        return Performed::faulted(c, Fault::Store(sb));
     }
     machine::put_word(s, sb / 2, x);
-    Performed {
-        control: c,
-        completion: Completion::Done,
-    }
+    Performed::done(c)
 }
 
 // Load Double Register: the first word is read after W was written.
@@ -157,10 +111,7 @@ pub fn dl(s: &mut [u32], c: Control, w: u32, sb: u32) -> Performed
     ensures { λ r. ⌜ effectOf r (now (s .exit)) ≡ executing DL w sb (now (s .entry)) c ⌝ }
 {
     if machine::is_absent(s, sb) {
-        return Performed {
-            control: c,
-            completion: Completion::Faulted(Fault::Absent(sb)),
-        };
+        return Performed::faulted(c, Fault::Absent(sb));
     }
     let y = machine::word_at(s, sb / 2);
     machine::put_word(s, w, y);
@@ -168,10 +119,7 @@ pub fn dl(s: &mut [u32], c: Control, w: u32, sb: u32) -> Performed
     let u = machine::word_at(s, a / 2);
     let p = machine::previous_register(w);
     machine::put_word(s, p, u);
-    Performed {
-        control: c,
-        completion: Completion::Done,
-    }
+    Performed::done(c)
 }
 
 // Store Double Register: the second word is tested and written, then the first.
@@ -179,33 +127,21 @@ pub fn ds(s: &mut [u32], c: Control, w: u32, sb: u32) -> Performed
     ensures { λ r. ⌜ effectOf r (now (s .exit)) ≡ executing DS w sb (now (s .entry)) c ⌝ }
 {
     if machine::is_absent(s, sb) {
-        return Performed {
-            control: c,
-            completion: Completion::Faulted(Fault::Absent(sb)),
-        };
+        return Performed::faulted(c, Fault::Absent(sb));
     }
     if machine::is_violation(s, c, sb / 2) {
-        return Performed {
-            control: c,
-            completion: Completion::Faulted(Fault::Store(sb)),
-        };
+        return Performed::faulted(c, Fault::Store(sb));
     }
     let x = machine::word_at(s, w);
     machine::put_word(s, sb / 2, x);
     let a = machine::first_word(sb);
     if machine::is_violation(s, c, a / 2) {
-        return Performed {
-            control: c,
-            completion: Completion::Faulted(Fault::Store(a)),
-        };
+        return Performed::faulted(c, Fault::Store(a));
     }
     let p = machine::previous_register(w);
     let u = machine::word_at(s, p);
     machine::put_word(s, a / 2, u);
-    Performed {
-        control: c,
-        completion: Completion::Done,
-    }
+    Performed::done(c)
 }
 
 // Load Byte with Zeroes.
@@ -213,17 +149,11 @@ pub fn bz(s: &mut [u32], c: Control, w: u32, sb: u32) -> Performed
     ensures { λ r. ⌜ effectOf r (now (s .exit)) ≡ executing BZ w sb (now (s .entry)) c ⌝ }
 {
     if machine::is_absent(s, sb) {
-        return Performed {
-            control: c,
-            completion: Completion::Faulted(Fault::Absent(sb)),
-        };
+        return Performed::faulted(c, Fault::Absent(sb));
     }
     let b = machine::byte_at(s, sb);
     machine::put_word(s, w, b);
-    Performed {
-        control: c,
-        completion: Completion::Done,
-    }
+    Performed::done(c)
 }
 
 // Load Integer Byte.
@@ -231,16 +161,10 @@ pub fn bl(s: &mut [u32], c: Control, w: u32, sb: u32) -> Performed
     ensures { λ r. ⌜ effectOf r (now (s .exit)) ≡ executing BL w sb (now (s .entry)) c ⌝ }
 {
     if machine::is_absent(s, sb) {
-        return Performed {
-            control: c,
-            completion: Completion::Faulted(Fault::Absent(sb)),
-        };
+        return Performed::faulted(c, Fault::Absent(sb));
     }
     let b = machine::byte_at(s, sb);
     let e = extend(b);
     machine::put_word(s, w, e);
-    Performed {
-        control: c,
-        completion: Completion::Done,
-    }
+    Performed::done(c)
 }

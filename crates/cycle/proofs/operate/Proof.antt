@@ -3,18 +3,21 @@ use borrow.Author.Needs.{needs}
 use Rattle.cycle.proofs.operate.Statement.{statement}
 use Rattle.cycle.proofs.operate.Tie as tie
 
+effective-address-requires : tie.Need-effective-address-requires
+effective-address-requires c κs = search needs
+
 is-indirect-absent-requires : tie.Need-is-indirect-absent-requires
 is-indirect-absent-requires c κs = search needs
+
+faulted-requires : tie.Need-faulted-requires
+faulted-requires c κs = search needs
 
 same-length : tie.Need-same-length
 same-length c = search needs
 
 returns : tie.Need-returns
 unfolding operate
-returns c = rw (← (c .before .is-indirect-absent .ensures), c .if1 .taken)
-
-effective-address-requires : tie.Need-effective-address-requires
-effective-address-requires c κs = search needs
+returns c = rw (← (c .before .before .before .before .effective-address .ensures .0), ← (c .before .before .is-indirect-absent .ensures), c .before .if1 .taken, c .faulted .ensures)
 
 operate-requires : tie.Need-operate-requires
 operate-requires c κs = search needs
@@ -24,16 +27,17 @@ same-length-2 c = search needs
 
 returns-2 : tie.Need-returns-2
 unfolding operate
-returns-2 c = rw (← (c .before .before .before .before .before .before .before .is-indirect-absent .ensures), c .before .before .before .before .before .before .if1 .left, ← (c .before .before .before .before .effective-address .ensures .0), ← (c .before .before .operate .ensures))
+returns-2 c = rw (← (c .before .before .before .before .before .before .before .effective-address .ensures .0), ← (c .before .before .before .before .before .is-indirect-absent .ensures), c .before .before .before .before .if1 .left, ← (c .before .before .operate .ensures))
 
 pub operate-spec : {M : Type 1} → statement M
 operate-spec =
     tie.close
     (tie.spec
+    effective-address-requires
     is-indirect-absent-requires
+    faulted-requires
     same-length
     returns
-    effective-address-requires
     operate-requires
     same-length-2
     returns-2)

@@ -82,6 +82,9 @@ aa-requires c κs = search needs
 ss-requires : tie.Need-ss-requires
 ss-requires c κs = search needs
 
+faulted-requires : tie.Need-faulted-requires
+faulted-requires c κs = search needs
+
 same-length : tie.Need-same-length
 same-length c = search needs
 
@@ -265,7 +268,9 @@ unfolding operating lookup codes
 returns-26 c = rw (c .before .before .before .before .match .keys26, ← (c .before .before .ss .ensures))
 
 returns-27 : tie.Need-returns-27
-returns-27 c = let start = c .before .before in unassigned-code _ _ _ _ _ (none-from (start .args .f) 32 26 (start .pre .0) (c .match .rest))
+returns-27 c =
+    let start = c .before .before .before in
+    rw (c .faulted .ensures) (unassigned-code _ _ _ _ _ (none-from (start .args .f) 32 26 (start .pre .0) (c .before .match .rest)))
 
 pub operate-high-spec : {M : Type 1} → statement M
 operate-high-spec =
@@ -297,6 +302,7 @@ operate-high-spec =
     ds-requires
     aa-requires
     ss-requires
+    faulted-requires
     same-length
     returns
     same-length-2

@@ -100,6 +100,9 @@ ms-requires c κs = search needs
 is-requires : tie.Need-is-requires
 is-requires c κs = search needs
 
+faulted-requires : tie.Need-faulted-requires
+faulted-requires c κs = search needs
+
 same-length : tie.Need-same-length
 same-length c = search needs
 
@@ -325,7 +328,7 @@ unfolding operating lookup codes
 returns-32 c = rw (c .before .before .before .before .match .keys32, ← (c .before .before .is .ensures))
 
 returns-33 : tie.Need-returns-33
-returns-33 c = let start = c .before .before in absurd (no-low-code (start .args .f) (start .pre .0) (c .match .rest))
+returns-33 c = let start = c .before .before .before in absurd (no-low-code (start .args .f) (start .pre .0) (c .before .match .rest))
 
 pub operate-low-spec : {M : Type 1} → statement M
 operate-low-spec =
@@ -363,6 +366,7 @@ operate-low-spec =
     ps-requires
     ms-requires
     is-requires
+    faulted-requires
     same-length
     returns
     same-length-2

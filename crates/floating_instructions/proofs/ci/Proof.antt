@@ -26,12 +26,15 @@ put-long-requires c κs = search needs
 put-long-requires-2 : tie.Need-put-long-requires-2
 put-long-requires-2 c κs = search needs
 
+done-requires : tie.Need-done-requires
+done-requires c κs = search needs
+
 same-length : tie.Need-same-length
 same-length c = search needs
 
 returns : tie.Need-returns
 unfolding executing perform meaning microSteps microStep monitorSteps monitorStep
-returns c = rw (← (c .before .before .before .before .before .before .before .before .before .before .before .before .before .clear-flags .ensures), ← (c .before .before .before .before .before .before .before .before .before .before .before .word-at .ensures .0), ← (c .before .before .before .before .before .before .before .before .before .before .convert-integer .ensures), ← (c .before .before .before .before .before .before .before .before .before .note-overflow .ensures), ← (c .before .before .before .before .before .before .before .before .previous-register .ensures), ← (c .before .before .before .before .before .before .put-long .ensures), ← (c .before .before .put-long2 .ensures))
+returns c = rw (← (c .before .before .before .before .before .before .before .before .before .before .before .before .before .before .clear-flags .ensures), ← (c .before .before .before .before .before .before .before .before .before .before .before .before .word-at .ensures .0), ← (c .before .before .before .before .before .before .before .before .before .before .before .convert-integer .ensures), ← (c .before .before .before .before .before .before .before .before .before .before .note-overflow .ensures), ← (c .before .before .before .before .before .before .before .before .before .previous-register .ensures), ← (c .before .before .before .before .before .before .before .put-long .ensures), ← (c .before .before .before .put-long2 .ensures), c .done .ensures)
 
 pub ci-spec : {M : Type 1} → statement M
 ci-spec =
@@ -44,5 +47,6 @@ ci-spec =
     previous-register-requires
     put-long-requires
     put-long-requires-2
+    done-requires
     same-length
     returns)

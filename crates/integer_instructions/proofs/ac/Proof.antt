@@ -20,12 +20,15 @@ note-overflow-requires c κs = search needs
 note-carry-requires : tie.Need-note-carry-requires
 note-carry-requires c κs = search needs
 
+done-requires : tie.Need-done-requires
+done-requires c κs = search needs
+
 same-length : tie.Need-same-length
 same-length c = search needs
 
 returns : tie.Need-returns
 unfolding executing perform meaning microSteps microStep monitorSteps monitorStep
-returns c = rw (← (c .before .before .before .before .before .before .before .clear-flags .ensures), ← (c .before .before .before .before .before .before .subtract .ensures .0), ← (c .before .before .before .before .put-word .ensures), ← (c .before .note-overflow .ensures), ← (c .note-carry .ensures))
+returns c = rw (← (c .before .before .before .before .before .before .before .before .clear-flags .ensures), ← (c .before .before .before .before .before .before .before .subtract .ensures .0), ← (c .before .before .before .before .before .put-word .ensures), ← (c .before .before .note-overflow .ensures), ← (c .before .note-carry .ensures), c .done .ensures)
 
 pub ac-spec : {M : Type 1} → statement M
 ac-spec =
@@ -36,5 +39,6 @@ ac-spec =
     put-word-requires
     note-overflow-requires
     note-carry-requires
+    done-requires
     same-length
     returns)

@@ -11,9 +11,12 @@ bits-zero-requires c κs = search needs
 skip-if-requires : tie.Need-skip-if-requires
 skip-if-requires c κs = search needs
 
+done-requires : tie.Need-done-requires
+done-requires c κs = search needs
+
 returns : tie.Need-returns
 unfolding executing perform meaning microSteps microStep monitorSteps monitorStep
-returns c = rw (← (c .before .bits-zero .ensures), ← (c .skip-if .ensures))
+returns c = rw (← (c .before .before .bits-zero .ensures), ← (c .before .skip-if .ensures), c .done .ensures)
 
 pub sx-spec : {M : Type 1} → statement M
-sx-spec = tie.close (tie.spec bits-zero-requires skip-if-requires returns)
+sx-spec = tie.close (tie.spec bits-zero-requires skip-if-requires done-requires returns)
