@@ -1,8 +1,8 @@
--- The loop of a run: n instructions done, and what is left of the budget. Assumes nothing.
+-- The loop of a run: k is left of the budget b. Assumes nothing.
 use Prim.Native.Nat.{ℕ, zero, suc, _+_, _-_, _≤_, _<_}
 use native.Mathlib.Nat.{sub-zero, zero-add, add-zero}
 use native.Mathlib.Omega.{arith}
-use mathlib.Core.Path.{_≡_, refl, sym, ap, _∙_}
+use mathlib.Core.Path.{_≡_, refl, sym, subst}
 use mathlib.Core.Bool.{Bool, true, false, not, true≢false, false≢true}
 use mathlib.Core.List.{List}
 use Rattle.machine.specs.declared.Control.{Control}
@@ -21,8 +21,8 @@ use Rattle.runner.specs.Ends.{goesOn, stopped}
 abbrev pub following : ℕ → Ran Machine → Ran Machine
 following n r = record { machine = r .machine; answer = r .answer; executed = n + r .executed; entries = r .entries }
 
-pub at-first : (b : ℕ) (m : Machine) → following 0 (running (b - 0) m) ≡ running b m
-at-first b m = rw sub-zero (simp zero-add)
+pub at-first : (b : ℕ) (m : Machine) → following (b - b) (running b m) ≡ running b m
+at-first b m = let z : b - b ≡ 0 = omega arith in rw z (simp zero-add)
 
 pub begun-in-reset : (b : ℕ) (s : List ℕ) (c : Control) → c .reset ≡ true → ended Reset (machine s c) 0 0 ≡ running b (machine s c)
 unfolding running
@@ -31,12 +31,9 @@ begun-in-reset b s c e = sym (run-reset inReset cycle b (machine s c) e)
 one-more : (n k : ℕ) → n + suc k ≡ n + 1 + k
 one-more n k = omega arith
 
-left : (b n : ℕ) → n < b → b - n ≡ suc (b - (n + 1))
-left b n h = omega arith
-
-live : (b n : ℕ) (m : Machine) → n < b → inReset m ≡ false → running (b - n) m ≡ after (cycle m) (run inReset cycle (b - (n + 1)))
+live : (k : ℕ) (m : Machine) → 0 < k → inReset m ≡ false → running k m ≡ after (cycle m) (run inReset cycle (k - 1))
 unfolding running
-live b n m h e = rw (left b n h) (run-live inReset cycle (b - (n + 1)) m e)
+live k m h e = let l : k ≡ suc (k - 1) = omega arith in subst (λ x. run inReset cycle x m ≡ after (cycle m) (run inReset cycle (k - 1))) (sym l) (run-live inReset cycle (k - 1) m e)
 
 pub not-reset : (e : CycleEnd) (c : Control) → goesOn e c ≡ true → c .reset ≡ false
 unfolding goesOn
@@ -47,26 +44,28 @@ not-reset Executed c h = turned (c .reset) h
     turned false q = refl
 not-reset (Entered k) c h = absurd (false≢true h)
 
-pub run-goes : (b n : ℕ) (m : Machine) (e : CycleEnd) (s : List ℕ) (c : Control) → n < b → inReset m ≡ false → endOf e s c ≡ cycle m → goesOn e c ≡ true
-    → following n (running (b - n) m) ≡ following (n + 1) (running (b - (n + 1)) (machine s c))
+pub run-goes : (b k : ℕ) (m : Machine) (e : CycleEnd) (s : List ℕ) (c : Control) → 0 < k → k ≤ b → inReset m ≡ false → endOf e s c ≡ cycle m → goesOn e c ≡ true
+    → following (b - k) (running k m) ≡ following (b - (k - 1)) (running (k - 1) (machine s c))
 unfolding goesOn running
-run-goes b n m Executed s c l e t g = rw (live b n m l e, ← t) (simp one-more)
-run-goes b n m (Entered k) s c l e t g = absurd (false≢true g)
+run-goes b k m Executed s c h l e t g =
+    let n : b - (k - 1) ≡ b - k + 1 = omega arith in
+    rw (live k m h e, ← t, n) (simp one-more)
+run-goes b k m (Entered x) s c h l e t g = absurd (false≢true g)
 
-pub run-stops : (b n : ℕ) (m : Machine) (e : CycleEnd) (s : List ℕ) (c : Control) → n < b → inReset m ≡ false → endOf e s c ≡ cycle m → goesOn e c ≡ false
-    → ranOf (stopped e c n) s ≡ following n (running (b - n) m)
+pub run-stops : (b k : ℕ) (m : Machine) (e : CycleEnd) (s : List ℕ) (c : Control) → 0 < k → inReset m ≡ false → endOf e s c ≡ cycle m → goesOn e c ≡ false
+    → ranOf (stopped e c (b - k)) s ≡ following (b - k) (running k m)
 unfolding goesOn stopped
-run-stops b n m Executed s c l e t g =
+run-stops b k m Executed s c h e t g =
     let r : inReset (machine s c) ≡ true = turned (c .reset) g in
-    rw (live b n m l e, ← t, run-reset inReset cycle (b - (n + 1)) (machine s c) r)
+    rw (live k m h e, ← t, run-reset inReset cycle (k - 1) (machine s c) r)
   where
     turned : (b : Bool) → not b ≡ false → b ≡ true
     turned true q = refl
     turned false q = absurd (true≢false q)
-run-stops b n m (Entered k) s c l e t g = rw (live b n m l e, ← t) (simp add-zero)
+run-stops b k m (Entered x) s c h e t g = rw (live k m h e, ← t) (simp add-zero)
 
-pub run-spent : (b n : ℕ) (s : List ℕ) (c : Control) → b ≤ n → c .reset ≡ false → ended Spent (machine s c) n 0 ≡ following n (running (b - n) (machine s c))
+pub run-spent : (b k : ℕ) (s : List ℕ) (c : Control) → k ≤ 0 → c .reset ≡ false → ended Spent (machine s c) b 0 ≡ following (b - k) (running k (machine s c))
 unfolding running
-run-spent b n s c l e =
-    let z : b - n ≡ 0 = omega arith in
-    rw (z, run-out inReset cycle (machine s c) e) (simp add-zero)
+run-spent b k s c l e =
+    let z : k ≡ 0 = omega arith in
+    rw (z, sub-zero, run-out inReset cycle (machine s c) e) (simp add-zero)

@@ -60,20 +60,20 @@ pub fn run(s: &mut [u32], c: Control, budget: u32) -> Run
         };
     }
     let mut d = c;
-    let mut n: u32 = 0;
-    while n < budget {
+    let mut left = budget;
+    while left > 0 {
         let t = cycle::cycle(s, d);
         if goes_on(t) {
             d = t.control;
-            n += 1;
+            left -= 1;
         } else {
-            return stop(t, n);
+            return stop(t, budget - left);
         }
     }
     Run {
         control: d,
         answer: Answer::Ended(Outcome::Spent),
-        executed: n,
+        executed: budget,
         entries: 0,
     }
 }

@@ -11,11 +11,11 @@ use Rattle.runner.proofs.run.Statement.{statement}
 use Rattle.runner.proofs.run.Tie as tie
 
 abbrev Inv-loop : tie.InvT-loop
-Inv-loop s₀ budget d₀ n₀ s d n =
-    (n ≤ budget) × (length s ≡ length s₀) × (d .reset ≡ false) × (following n (running (budget - n) (machine s d)) ≡ running budget (machine s₀ d₀))
+Inv-loop s₀ budget d₀ left₀ s d left =
+    (left ≤ budget) × (length s ≡ length s₀) × (d .reset ≡ false) × (following (budget - left) (running left (machine s d)) ≡ running budget (machine s₀ d₀))
 
 abbrev μ-loop : tie.MeasureT-loop
-μ-loop s₀ budget d₀ n₀ s d n = budget - n
+μ-loop s₀ budget d₀ left₀ s d left = left
 
 returns : tie.Need-returns Inv-loop μ-loop
 returns c = begun-in-reset _ _ _ (c .if1 .taken)
@@ -29,8 +29,8 @@ cycle-requires c κs = search needs
 goes-on-requires : tie.Need-goes-on-requires Inv-loop μ-loop
 goes-on-requires c κs = search needs
 
-add-n : tie.Need-add-n Inv-loop μ-loop
-add-n c = search needs
+sub-left : tie.Need-sub-left Inv-loop μ-loop
+sub-left c = search needs
 
 loop-less : tie.Need-loop-less Inv-loop μ-loop
 loop-less c = omega arith
@@ -39,7 +39,10 @@ loop-again : tie.Need-loop-again Inv-loop μ-loop
 loop-again c =
     let inv = c .before .before .before .before .before .before .before .before .loop .inv in
     let g = sym (c .before .before .goes-on .ensures) ∙ c .before .if2 .taken in
-    (omega arith, c .before .before .before .before .before .cycle .kept .0 ∙ inv .1, not-reset _ _ g, sym (run-goes _ _ _ _ _ _ (c .before .before .before .before .before .before .before .loop-test .taken) (inv .2) (c .before .before .before .before .before .cycle .ensures) g) ∙ inv .3)
+    (omega arith, c .before .before .before .before .before .cycle .kept .0 ∙ inv .1, not-reset _ _ g, sym (run-goes _ _ _ _ _ _ (c .before .before .before .before .before .before .before .loop-test .taken) (inv .0) (inv .2) (c .before .before .before .before .before .cycle .ensures) g) ∙ inv .3)
+
+sub-stop : tie.Need-sub-stop Inv-loop μ-loop
+sub-stop c = search needs
 
 stop-requires : tie.Need-stop-requires Inv-loop μ-loop
 stop-requires c κs = search needs
@@ -69,9 +72,10 @@ run-spec =
     loop-holds
     cycle-requires
     goes-on-requires
-    add-n
+    sub-left
     loop-less
     loop-again
+    sub-stop
     stop-requires
     same-length
     returns-2
