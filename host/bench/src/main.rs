@@ -4,6 +4,10 @@
 //! budget again and again. The two machines take their slices of time by
 //! turns, and a figure is the median over the slices. SECONDS is the time for
 //! each row, 4 where it is not given.
+//!
+//! `bench MACHINE ROW RUNS`: no table, but so many runs of the program of one
+//! row, 0 to 5, on one machine, `proved` or `emulation`; for a counter of host
+//! instructions (`host/count`).
 
 use protocol::{Control, Emulation, Machine, Outcome};
 use std::time::{Duration, Instant};
@@ -83,22 +87,35 @@ impl<M: Machine> Loaded<M> {
         }
     }
 
+    /// One run with the whole budget; gives the executed instructions.
+    fn run(&mut self) -> u64 {
+        let report = self
+            .machine
+            .run(&mut self.store, &mut self.control, 0, self.budget)
+            .expect("a run that is not refused");
+        assert_eq!(report.outcome, Outcome::Spent);
+        u64::from(report.executed)
+    }
+
     /// Runs for this time and gives the instructions per second.
     fn rate(&mut self, slice: Duration) -> f64 {
         let start = Instant::now();
         let mut executed = 0;
         loop {
-            let report = self
-                .machine
-                .run(&mut self.store, &mut self.control, 0, self.budget)
-                .expect("a run that is not refused");
-            assert_eq!(report.outcome, Outcome::Spent);
-            executed += u64::from(report.executed);
+            executed += self.run();
             let elapsed = start.elapsed();
             if elapsed >= slice {
                 return executed as f64 / elapsed.as_secs_f64();
             }
         }
+    }
+}
+
+/// So many runs of a row's program and nothing else.
+fn run_only<M: Machine>(machine: M, row: &Row, runs: u32) {
+    let mut loaded = Loaded::new(machine, row);
+    for _ in 0..runs {
+        loaded.run();
     }
 }
 
@@ -125,9 +142,24 @@ fn measure(row: &Row, seconds: f64) -> (f64, f64, f64) {
 }
 
 fn main() {
-    let seconds = std::env::args()
-        .nth(1)
-        .map_or(4.0, |seconds| seconds.parse().expect("a number of seconds"));
+    let words: Vec<String> = std::env::args().skip(1).collect();
+    match words.as_slice() {
+        [] => table(4.0),
+        [seconds] => table(seconds.parse().expect("a number of seconds")),
+        [machine, row, runs] => {
+            let row = &ROWS[row.parse::<usize>().expect("a row's number")];
+            let runs = runs.parse().expect("a number of runs");
+            match machine.as_str() {
+                "proved" => run_only(TESTED, row, runs),
+                "emulation" => run_only(Emulation, row, runs),
+                _ => panic!("a machine is `proved` or `emulation`"),
+            }
+        }
+        _ => panic!("bench [SECONDS] or bench MACHINE ROW RUNS"),
+    }
+}
+
+fn table(seconds: f64) {
     let tested = if cfg!(feature = "proved") {
         "proved"
     } else {
