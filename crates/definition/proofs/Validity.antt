@@ -39,7 +39,7 @@ pub record Valid (m : Machine) : Type 0 where
 
 -- ---- Valid is what the tests say
 
-both : (a b : Bool) → cond a b false ≡ true → (a ≡ true) × (b ≡ true)
+pub both : (a b : Bool) → cond a b false ≡ true → (a ≡ true) × (b ≡ true)
 both true b e = (refl, e)
 both false b e = absurd (false≢true e)
 
@@ -47,7 +47,7 @@ neither : (a b : Bool) → cond a false b ≡ true → (a ≡ false) × (b ≡ t
 neither true b e = absurd (false≢true e)
 neither false b e = (refl, e)
 
-passed : (b : Bool) (v : Verdict) (r : Refusal) → cond b v (Rejected r) ≡ Accepted → (b ≡ true) × (v ≡ Accepted)
+pub passed : (b : Bool) (v : Verdict) (r : Refusal) → cond b v (Rejected r) ≡ Accepted → (b ≡ true) × (v ≡ Accepted)
 passed true v r e = (refl, e)
 passed false v r e = let z : _≡_ {A = ℕ} 0 1 = cc in absurd (omega arith)
 

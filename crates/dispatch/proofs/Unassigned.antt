@@ -2,7 +2,7 @@
 use Prim.Native.Nat.{ℕ, zero, suc, _+_, _≤_, _<_}
 use native.Mathlib.Omega.{arith}
 use mathlib.Core.Path.{_≡_, refl}
-use mathlib.Core.Bool.{Bool, true, false, cond, false≢true}
+use mathlib.Core.Bool.{Bool, true, false, cond}
 use mathlib.Core.List.{List, [], _∷_}
 use lib.Dec.{ltb}
 use borrow.Author.Tests.{ltb-true, ne-eqb}
@@ -12,6 +12,7 @@ use Rattle.definition.specs.Machine.{machine, fault}
 use Rattle.definition.specs.MicroOps.{perform}
 use Rattle.definition.specs.Meaning.{None, meaning}
 use Rattle.definition.specs.Codes.{Code, codes, lookup, executing, operating}
+use Rattle.definition.proofs.Validity.{both}
 
 -- x is none of a, .., a + k - 1: what the last arm of a match is told
 abbrev pub NoneFrom : ℕ → ℕ → ℕ → Type 0
@@ -29,10 +30,6 @@ no-low-code f l h = let m : 0 + 32 ≤ f = none-from f 0 32 (omega arith) h in o
 unfoldable below : ℕ → List Code → Bool
 below n [] = true
 below n (x ∷ xs) = cond (ltb (x .number) n) (below n xs) false
-
-both : (a b : Bool) → cond a b false ≡ true → (a ≡ true) × (b ≡ true)
-both true b e = (refl, e)
-both false b e = absurd (false≢true e)
 
 lookup-beyond : (f n : ℕ) (cs : List Code) → below n cs ≡ true → n ≤ f → lookup f cs ≡ None
 unfolding lookup below

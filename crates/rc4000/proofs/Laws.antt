@@ -1,10 +1,11 @@
 -- What the proof of `run` takes from the tests and from the promises. Assumes nothing.
-use Prim.Native.Nat.{ℕ, _<_, _+_}
+use Prim.Native.Nat.{ℕ, _<_, _≤_}
 use native.Mathlib.Omega.{arith}
 use mathlib.Core.Path.{_≡_, refl, sym, subst, _∙_}
-use mathlib.Core.Bool.{Bool, true, false, cond, false≢true}
+use mathlib.Core.Bool.{cond}
 use mathlib.Core.List.{List}
 use lib.Dec.{ltb}
+use lib.ListN.{length}
 use borrow.Author.Tests.{ltb-true}
 use Rattle.machine.specs.declared.Control.{Control}
 use Rattle.machine.specs.declared.Refusal.{Refusal}
@@ -14,6 +15,7 @@ use Rattle.machine.specs.declared.Verdict.the-variants.{Accepted, Rejected}
 use Rattle.machine.specs.Fields.{raised}
 use Rattle.acceptance.specs.Accept.{judgeMachine, judgeCall, judgeRun}
 use Rattle.definition.specs.Machine.{Machine, machine}
+use Rattle.definition.proofs.Validity.{passed, accepted-valid}
 use Rattle.running.specs.Runs.{Ran, refused}
 use Rattle.running.specs.Cycle.{cycle}
 use Rattle.running.specs.Run.{inReset, judgeOf, joined, running, runMachine}
@@ -21,17 +23,18 @@ use Rattle.running.specs.Promises.{KeepsProtected, Counts}
 use Rattle.running.proofs.CallLaws.{call-run}
 use Rattle.running.proofs.Promises.{isolation, counts-of-run, refused-run}
 
-kept : (b : Bool) (v : Verdict) (q : Refusal) → cond b v (Rejected q) ≡ Accepted → (b ≡ true) × (v ≡ Accepted)
-kept true v q e = (refl, e)
-kept false v q e = let z : _≡_ {A = ℕ} 0 1 = cc in absurd (omega arith)
+call-passed : (v : Verdict) (l b : ℕ) → judgeCall v l b ≡ Accepted → (v ≡ Accepted) × (b < 65536)
+call-passed Accepted l b e =
+    let lines = passed (ltb l 2097152) (cond (ltb b 65536) Accepted (Rejected Budget)) Lines e in
+    (refl, ltb-true b 65536 (passed (ltb b 65536) Accepted Budget (lines .1) .0))
+call-passed (Rejected q) l b e = let z : _≡_ {A = ℕ} 0 1 = cc in absurd (omega arith)
 
-call-budget : (v : Verdict) (l b : ℕ) → judgeCall v l b ≡ Accepted → b < 65536
-call-budget Accepted l b e = ltb-true b 65536 (kept (ltb b 65536) Accepted Budget (kept (ltb l 2097152) (cond (ltb b 65536) Accepted (Rejected Budget)) Lines e .1) .0)
-call-budget (Rejected q) l b e = let z : _≡_ {A = ℕ} 0 1 = cc in absurd (omega arith)
-
-pub budget-fits : (s : List ℕ) (c : Control) (l b : ℕ) → Accepted ≡ judgeRun s c l b → b < 65536
+-- what the code of a run asks: the registers' cells, and a budget of 16 bits
+pub fits-a-run : (s : List ℕ) (c : Control) (l b : ℕ) → Accepted ≡ judgeRun s c l b → (8 ≤ length s) × (b < 65536)
 unfolding judgeRun
-budget-fits s c l b e = call-budget (judgeMachine s c) l b (sym e)
+fits-a-run s c l b e =
+    let call = call-passed (judgeMachine s c) l b (sym e) in
+    (accepted-valid (machine s c) (call .0) .least, call .1)
 
 pub run-accepted : (s : List ℕ) (c : Control) (l b : ℕ) (x : Ran Machine) → Accepted ≡ judgeRun s c l b → x ≡ running b (machine s (raised c l))
     → x ≡ runMachine l b (machine s c)

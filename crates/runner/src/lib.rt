@@ -1,6 +1,7 @@
 // The cycles of a run, until the budget is used, the reset state or an entry.
 ghost use mathlib.Core.Path.{_≡_};
-ghost use Prim.Native.Nat.{_<_};
+ghost use Prim.Native.Nat.{_<_, _≤_};
+ghost use lib.ListN.{length};
 ghost use Rattle.definition.specs.Machine.{machine};
 ghost use Rattle.running.specs.Bridge.{ranOf};
 ghost use Rattle.running.specs.Run.{running};
@@ -47,10 +48,19 @@ fn stop(t: Cycled, n: u32) -> Run
     }
 }
 
+// The first test fails always: it tells the compiler that the registers' cells are there, so that no cycle tests it.
 pub fn run(s: &mut [u32], c: Control, budget: u32) -> Run
-    requires { ⌜ budget < 65536 ⌝ }
+    requires { ⌜ (8 ≤ length (now s)) × (budget < 65536) ⌝ }
     ensures { λ r. ⌜ ranOf r (now (s .exit)) ≡ running budget (machine (now (s .entry)) c) ⌝ }
 {
+    if s.len() < 8 {
+        return Run {
+            control: c,
+            answer: Answer::Ended(Outcome::Spent),
+            executed: 0,
+            entries: 0,
+        };
+    }
     if c.reset {
         return Run {
             control: c,

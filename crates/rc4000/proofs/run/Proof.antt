@@ -1,5 +1,5 @@
 use mathlib.Core.Path.{sym, _∙_}
-use Rattle.rc4000.proofs.Laws.{budget-fits, run-accepted, run-rejected, with-promises}
+use Rattle.rc4000.proofs.Laws.{fits-a-run, run-accepted, run-rejected, with-promises}
 use borrow.Author.Needs.{needs}
 use Rattle.rc4000.proofs.run.Statement.{statement}
 use Rattle.rc4000.proofs.run.Tie as tie
@@ -14,7 +14,7 @@ raise-requires : tie.Need-raise-requires
 raise-requires c κs = search needs
 
 run-requires : tie.Need-run-requires
-run-requires c κs = budget-fits _ _ _ _ (sym (c .before .before .enum-told .given .1) ∙ c .before .before .before .before .judge-run .ensures)
+run-requires c κs = fits-a-run _ _ _ _ (sym (c .before .before .enum-told .given .1) ∙ c .before .before .before .before .judge-run .ensures)
 
 enum-known-v : tie.Need-enum-known-v
 enum-known-v c = search needs

@@ -18,10 +18,13 @@ abbrev μ-loop : tie.MeasureT-loop
 μ-loop s₀ budget d₀ left₀ s d left = left
 
 returns : tie.Need-returns Inv-loop μ-loop
-returns c = begun-in-reset _ _ _ (c .if1 .taken)
+returns c = absurd (omega arith)
+
+returns-2 : tie.Need-returns-2 Inv-loop μ-loop
+returns-2 c = begun-in-reset _ _ _ (c .if2 .taken)
 
 loop-holds : tie.Need-loop-holds Inv-loop μ-loop
-loop-holds c = (search needs, refl, c .if1 .left, at-first _ _)
+loop-holds c = (search needs, refl, c .if2 .left, at-first _ _)
 
 cycle-requires : tie.Need-cycle-requires Inv-loop μ-loop
 cycle-requires c κs = search needs
@@ -38,7 +41,7 @@ loop-less c = omega arith
 loop-again : tie.Need-loop-again Inv-loop μ-loop
 loop-again c =
     let inv = c .before .before .before .before .before .before .before .before .loop .inv in
-    let g = sym (c .before .before .goes-on .ensures) ∙ c .before .if2 .taken in
+    let g = sym (c .before .before .goes-on .ensures) ∙ c .before .if3 .taken in
     (omega arith, c .before .before .before .before .before .cycle .kept .0 ∙ inv .1, not-reset _ _ g, sym (run-goes _ _ _ _ _ _ (c .before .before .before .before .before .before .before .loop-test .taken) (inv .0) (inv .2) (c .before .before .before .before .before .cycle .ensures) g) ∙ inv .3)
 
 sub-stop : tie.Need-sub-stop Inv-loop μ-loop
@@ -50,17 +53,17 @@ stop-requires c κs = search needs
 same-length : tie.Need-same-length Inv-loop μ-loop
 same-length c = search needs
 
-returns-2 : tie.Need-returns-2 Inv-loop μ-loop
-returns-2 c =
+returns-3 : tie.Need-returns-3 Inv-loop μ-loop
+returns-3 c =
     let inv = c .before .before .before .before .before .before .before .before .loop .inv in
-    let g = sym (c .before .before .goes-on .ensures) ∙ c .before .if2 .left in
+    let g = sym (c .before .before .goes-on .ensures) ∙ c .before .if3 .left in
     rw (c .stop .ensures) (run-stops _ _ _ _ _ _ (c .before .before .before .before .before .before .before .loop-test .taken) (inv .2) (c .before .before .before .before .before .cycle .ensures) g ∙ inv .3)
 
 same-length-2 : tie.Need-same-length-2 Inv-loop μ-loop
 same-length-2 c = search needs
 
-returns-3 : tie.Need-returns-3 Inv-loop μ-loop
-returns-3 c = let inv = c .before .loop .inv in run-spent _ _ _ _ (c .loop-test .left) (inv .2) ∙ inv .3
+returns-4 : tie.Need-returns-4 Inv-loop μ-loop
+returns-4 c = let inv = c .before .loop .inv in run-spent _ _ _ _ (c .loop-test .left) (inv .2) ∙ inv .3
 
 pub run-spec : {M : Type 1} → statement M
 run-spec =
@@ -69,6 +72,7 @@ run-spec =
     Inv-loop
     μ-loop
     returns
+    returns-2
     loop-holds
     cycle-requires
     goes-on-requires
@@ -78,6 +82,6 @@ run-spec =
     sub-stop
     stop-requires
     same-length
-    returns-2
+    returns-3
     same-length-2
-    returns-3)
+    returns-4)
