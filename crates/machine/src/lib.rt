@@ -422,7 +422,7 @@ pub fn first_word(a: u32) -> u32
 pub fn previous_register(w: u32) -> u32
     ensures { λ r. ⌜ r ≡ previous w ⌝ }
 {
-    (w % 4 + 3) % 4
+    if w % 4 == 0 { 3 } else { w % 4 - 1 }
 }
 
 // Test Mode.
