@@ -43,7 +43,7 @@ wdSign pre s ar br =
     (stored (ar + signed 24 25 s) (br + (2 ^ 24 - 1)))))
 
 -- where abs(AR(-1:22)) = abs(SB): if SB < 0 then BR := BR - 1 else begin BR := BR + 1; if AR(23) = BR(0) then Quotient Overflow end; AR := 0.
--- The two signs are as printed, although an exact division with an even quotient is then off by two (docs/DECISIONS.md A2).
+-- The two signs are as printed: an exact division with an even quotient is then off by two, or a Quotient Overflow where BR(0) changes (docs/DECISIONS.md A2).
 unfoldable pub wdCorrection : ℕ → ℕ → ℕ → ℕ → ℕ → Divided
 wdCorrection pre w s ar br =
     cond (ltb s (2 ^ 23))
@@ -70,6 +70,11 @@ wd pre w s =
 wd-minus-7 : wd 16777215 16777209 2 ≡ record { pre = 16777215; word = 16777213; over = 0 }
 unfolding wd wdEnd wdCorrection wdSign abs24 wdLoop wdStep iter
 wd-minus-7 = refl
+
+-- -4 by 2: the correction changes BR(0), Quotient Overflow
+wd-minus-4 : wd 16777215 16777212 2 ≡ record { pre = 16777215; word = 16777212; over = 1 }
+unfolding wd wdEnd wdCorrection wdSign abs24 wdLoop wdStep iter
+wd-minus-4 = refl
 
 -- WD pair 0, 5 by 0
 wd-by-0 : wd 0 5 0 ≡ record { pre = 0; word = 5; over = 1 }

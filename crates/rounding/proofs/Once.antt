@@ -14,7 +14,7 @@ use Rattle.normalize.specs.Norm.{normalize, normalAt}
 use Rattle.normalize.proofs.Enough.{normalized}
 use Rattle.rounding.specs.declared.Unpacked.{Unpacked}
 use Rattle.rounding.specs.Round.{afNormal, afStep, afLeft, leftShifts, normalizeOnce, roundUp, exact, roundAgain, normalizeRound}
-use Rattle.rounding.specs.Claims.{TwoPasses, AnyBound}
+use Rattle.rounding.specs.Claims.{LeftShiftsEnd, TwoPasses, AnyBound}
 use Rattle.rounding.proofs.Left.{Extended, left-extended, left-is, wide, same-test}
 
 pub round-stop : (x y : Unpacked) → y ≡ normalizeOnce x → y .af / 2 % 2 ≡ 0 → y ≡ normalizeRound x
@@ -133,13 +133,18 @@ right-fraction a b h =
     let u : (a / 2 + a / 2 ^ 38 * 2 ^ 38) / 2 ^ 36 % 2 ≡ a / 2 ^ 37 % 2 = omega arith in
     record { extended = record { small = omega arith; equal = s ∙ sym t }; differ = λ e. h (sym t ∙ e ∙ u) }
 
-left-fraction : (a : ℕ) → Extended a → (a ≡ 0 → ⊥) → Fraction (afLeft a .word)
-left-fraction a e n =
+left-normal : (a : ℕ) → Extended a → (a ≡ 0 → ⊥) → afNormal (afLeft a) ≡ true
+left-normal a e n =
     let z : a ≢ 0 = n in
     let p : 0 < a % 2 ^ 38 * 2 ^ 10 = omega arith in
     let l : a % 2 ^ 38 * 2 ^ 10 < 2 ^ 48 = omega arith in
-    let t : afNormal (afLeft a) ≡ true = sym (same-test (afLeft a)) ∙ ap (normalAt 48) (sym (left-is a)) ∙ normalized (a % 2 ^ 38 * 2 ^ 10) p l in
-    record { extended = left-extended a e; differ = eqb-false _ _ (not-true _ t) }
+    sym (same-test (afLeft a)) ∙ ap (normalAt 48) (sym (left-is a)) ∙ normalized (a % 2 ^ 38 * 2 ^ 10) p l
+
+pub left-shifts-end : LeftShiftsEnd
+left-shifts-end a b e = left-normal a (record { small = b; equal = e })
+
+left-fraction : (a : ℕ) → Extended a → (a ≡ 0 → ⊥) → Fraction (afLeft a .word)
+left-fraction a e n = record { extended = left-extended a e; differ = eqb-false _ _ (not-true _ (left-normal a e n)) }
 
 once-is : (x : Unpacked) → x .af < 2 ^ 39 → (normalizeOnce x .af ≡ 0) ⊎ Fraction (normalizeOnce x .af)
 once-is x b =

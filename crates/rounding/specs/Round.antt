@@ -15,7 +15,8 @@ afNormal x = not (eqb (bit 37 (x .word)) (bit 36 (x .word)))
 abbrev pub afStep : Normal → Normal
 afStep x = record { word = shl 39 (x .word); shifts = x .shifts + 1 }
 
--- for SC := SC, SC - 1 while AF(0) = AF(1) do AF := shiftleft AF; the bound 48 suffices for every AF but zero
+-- for SC := SC, SC - 1 while AF(0) = AF(1) do AF := shiftleft AF, tested before the first shift too (docs/DECISIONS.md C6).
+-- The bound 48 suffices for every AF but zero with AF(-1) = AF(0) (Claims, LeftShiftsEnd).
 unfoldable pub afLeft : ℕ → Normal
 afLeft a = until afNormal afStep 48 (record { word = a; shifts = 0 })
 
