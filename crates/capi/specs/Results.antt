@@ -6,9 +6,7 @@ use Rattle.machine.specs.declared.Kind.the-variants.{Exception, Line}
 use Rattle.machine.specs.declared.Outcome.the-variants.{Reset, Interrupted, Spent}
 use Rattle.machine.specs.declared.Answer.{Answer}
 use Rattle.machine.specs.declared.Answer.the-variants.{Refused, Ended}
-use Rattle.machine.specs.declared.Verdict.{Verdict}
-use Rattle.machine.specs.declared.Verdict.the-variants.{Accepted, Rejected}
-use Rattle.machine.specs.Answers.{refusalNumber, kindNumber}
+use Rattle.machine.specs.Answers.{refusalNumber, kindNumber, verdictNumber}
 use Rattle.definition.specs.Machine.{Machine}
 use Rattle.running.specs.Runs.{Ran}
 use Rattle.running.specs.Keys.{Pressed}
@@ -32,11 +30,6 @@ outcomeNumber (Refused q) = refusalNumber q
 outcomeNumber (Ended Spent) = 0
 outcomeNumber (Ended Reset) = 0
 outcomeNumber (Ended (Interrupted k)) = kindNumber k
-
--- 0 for done
-abbrev pub verdictNumber : Verdict → ℕ
-verdictNumber Accepted = 0
-verdictNumber (Rejected q) = refusalNumber q
 
 unfoldable pub resultOf : Ran Machine → RunResult
 resultOf x =

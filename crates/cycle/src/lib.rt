@@ -109,6 +109,7 @@ fn enter(s: &mut [u32], n: u32, c: Control) -> Control
 }
 
 fn fetched(s: &[u32], ic: u32) -> u32
+    requires { ⌜ ic < 16777216 ⌝ }
     ensures { λ r. ⌜ r ≡ fetched (now (s .entry)) ic ⌝ }
 {
     if ic % 2 == 0 {
@@ -248,6 +249,7 @@ fn is_next_absent(s: &[u32], ic: u32) -> bool
 
 // The instruction is read before the tests, where an absent cell reads as 0: so one comparison serves the reading and the test.
 fn fetch(s: &mut [u32], c: Control) -> Performed
+    requires { ⌜ c .ic < 16777216 ⌝ }
     ensures { λ r. ⌜ effectOf r (now (s .exit)) ≡ fetch (now (s .entry)) c ⌝ }
 {
     let v = fetched(s, c.ic);
@@ -283,6 +285,7 @@ fn conclude(s: &mut [u32], r: Performed) -> Cycled
 }
 
 pub fn cycle(s: &mut [u32], c: Control) -> Cycled
+    requires { ⌜ c .ic < 16777216 ⌝ }
     ensures { λ r. ⌜ cycleOf r (now (s .exit)) ≡ cycle (machine (now (s .entry)) c) ⌝ }
 {
     let p = line_of(c);

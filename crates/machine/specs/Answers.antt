@@ -1,4 +1,4 @@
--- The paper's number of each refusal, the number that an entry stores, and what an instruction answers.
+-- Document 01's number of each refusal, the number that an entry stores, and what an instruction answers.
 -- Assumes nothing.
 use Prim.Native.Nat.{ℕ}
 use Rattle.machine.specs.declared.Control.{Control}
@@ -6,6 +6,8 @@ use Rattle.machine.specs.declared.Completion.{Completion}
 use Rattle.machine.specs.declared.Performed.{Performed}
 use Rattle.machine.specs.declared.Kind.{Kind}
 use Rattle.machine.specs.declared.Kind.the-variants.{Exception, Line}
+use Rattle.machine.specs.declared.Verdict.{Verdict}
+use Rattle.machine.specs.declared.Verdict.the-variants.{Accepted, Rejected}
 use Rattle.machine.specs.declared.Refusal.{Refusal}
 use Rattle.machine.specs.declared.Refusal.the-variants.{StoreSize, CellValue, ControlField, Lines, Budget, TapeEnds, RecordKind, RecordLength, BlockPlace, BlockCell, RecordOrder, TapeLength}
 
@@ -35,6 +37,11 @@ refusalNumber BlockCell = 10
 refusalNumber RecordOrder = 11
 -- over 65,536 bytes
 refusalNumber TapeLength = 12
+
+-- 0: not refused
+abbrev pub verdictNumber : Verdict → ℕ
+verdictNumber Accepted = 0
+verdictNumber (Rejected q) = refusalNumber q
 
 -- an exception has the number 0, a line twice its position
 abbrev pub kindNumber : Kind → ℕ

@@ -1,11 +1,10 @@
 -- What the proof of `run` takes from the tests and from the promises. Assumes nothing.
-use Prim.Native.Nat.{ℕ, _<_, _≤_}
+use Prim.Native.Nat.{ℕ, _<_}
 use native.Mathlib.Omega.{arith}
 use mathlib.Core.Path.{_≡_, refl, sym, subst, _∙_}
 use mathlib.Core.Bool.{cond}
 use mathlib.Core.List.{List}
 use lib.Dec.{ltb}
-use lib.ListN.{length}
 use borrow.Author.Tests.{ltb-true}
 use Rattle.machine.specs.declared.Control.{Control}
 use Rattle.machine.specs.declared.Refusal.{Refusal}
@@ -15,11 +14,12 @@ use Rattle.machine.specs.declared.Verdict.the-variants.{Accepted, Rejected}
 use Rattle.machine.specs.Fields.{raised}
 use Rattle.acceptance.specs.Accept.{judgeMachine, judgeCall, judgeRun}
 use Rattle.definition.specs.Machine.{Machine, machine}
-use Rattle.definition.proofs.Validity.{passed, accepted-valid}
+use Rattle.definition.proofs.Validity.{passed, accepted-valid, valid-accepted}
 use Rattle.running.specs.Runs.{Ran, refused}
 use Rattle.running.specs.Cycle.{cycle}
 use Rattle.running.specs.Run.{inReset, judgeOf, joined, running, runMachine}
 use Rattle.running.specs.Promises.{KeepsProtected, Counts}
+use Rattle.running.proofs.CycleValid.{valid-joined}
 use Rattle.running.proofs.CallLaws.{call-run}
 use Rattle.running.proofs.Promises.{isolation, counts-of-run, refused-run}
 
@@ -29,12 +29,12 @@ call-passed Accepted l b e =
     (refl, ltb-true b 65536 (passed (ltb b 65536) Accepted Budget (lines .1) .0))
 call-passed (Rejected q) l b e = let z : _≡_ {A = ℕ} 0 1 = cc in absurd (omega arith)
 
--- what the code of a run asks: the registers' cells, and a budget of 16 bits
-pub fits-a-run : (s : List ℕ) (c : Control) (l b : ℕ) → Accepted ≡ judgeRun s c l b → (8 ≤ length s) × (b < 65536)
+-- what the code of a run asks: a machine that passes the tests 1 to 3, the lines joined, and a budget of 16 bits
+pub fits-a-run : (s : List ℕ) (c : Control) (l b : ℕ) → Accepted ≡ judgeRun s c l b → (judgeMachine s (raised c l) ≡ Accepted) × (b < 65536)
 unfolding judgeRun
 fits-a-run s c l b e =
     let call = call-passed (judgeMachine s c) l b (sym e) in
-    (accepted-valid (machine s c) (call .0) .least, call .1)
+    (valid-accepted _ (valid-joined l (machine s c) (accepted-valid (machine s c) (call .0))), call .1)
 
 pub run-accepted : (s : List ℕ) (c : Control) (l b : ℕ) (x : Ran Machine) → Accepted ≡ judgeRun s c l b → x ≡ running b (machine s (raised c l))
     → x ≡ runMachine l b (machine s c)

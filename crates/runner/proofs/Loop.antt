@@ -14,7 +14,9 @@ use Rattle.running.specs.Runs.{CycleResult, Ran, ended, counted, after, run}
 use Rattle.running.specs.Cycle.{cycle}
 use Rattle.running.specs.Run.{inReset, running}
 use Rattle.running.specs.Bridge.{endOf, ranOf}
-use Rattle.running.proofs.RunLaws.{run-reset, run-out, run-live}
+use Rattle.definition.proofs.Validity.{Valid}
+use Rattle.running.proofs.RunLaws.{run-reset, run-out, run-live, Meets}
+use Rattle.running.proofs.CycleValid.{cycle-valid}
 use Rattle.runner.specs.Ends.{goesOn, stopped}
 
 -- a run with n instructions before it
@@ -51,6 +53,12 @@ run-goes b k m Executed s c h l e t g =
     let n : b - (k - 1) ≡ b - k + 1 = omega arith in
     rw (live k m h e, ← t, n) (simp one-more)
 run-goes b k m (Entered x) s c h l e t g = absurd (false≢true g)
+
+pub valid-goes : (m : Machine) (e : CycleEnd) (s : List ℕ) (c : Control) → inReset m ≡ false → Valid m → endOf e s c ≡ cycle m → goesOn e c ≡ true
+    → Valid (machine s c)
+unfolding goesOn
+valid-goes m Executed s c e h t g = subst (Meets Valid (λ k. Valid)) (sym t) (cycle-valid m e h)
+valid-goes m (Entered x) s c e h t g = absurd (false≢true g)
 
 pub run-stops : (b k : ℕ) (m : Machine) (e : CycleEnd) (s : List ℕ) (c : Control) → 0 < k → inReset m ≡ false → endOf e s c ≡ cycle m → goesOn e c ≡ false
     → ranOf (stopped e c (b - k)) s ≡ following (b - k) (running k m)

@@ -1,7 +1,8 @@
 // The cycles of a run, until the budget is used, the reset state or an entry.
 ghost use mathlib.Core.Path.{_≡_};
-ghost use Prim.Native.Nat.{_<_, _≤_};
-ghost use lib.ListN.{length};
+ghost use Prim.Native.Nat.{_<_};
+ghost use Rattle.machine.specs.declared.Verdict.the-variants.{Accepted};
+ghost use Rattle.acceptance.specs.Accept.{judgeMachine};
 ghost use Rattle.definition.specs.Machine.{machine};
 ghost use Rattle.running.specs.Bridge.{ranOf};
 ghost use Rattle.running.specs.Run.{running};
@@ -48,9 +49,9 @@ fn stop(t: Cycled, n: u32) -> Run
     }
 }
 
-// The first test fails always: it tells the compiler that the registers' cells are there, so that no cycle tests it.
+// The first branch is never taken: its test tells the compiler that the registers' cells are there, so that no cycle tests it.
 pub fn run(s: &mut [u32], c: Control, budget: u32) -> Run
-    requires { ⌜ (8 ≤ length (now s)) × (budget < 65536) ⌝ }
+    requires { ⌜ (judgeMachine (now s) c ≡ Accepted) × (budget < 65536) ⌝ }
     ensures { λ r. ⌜ ranOf r (now (s .exit)) ≡ running budget (machine (now (s .entry)) c) ⌝ }
 {
     if s.len() < 8 {

@@ -49,7 +49,7 @@ valid-decode n h =
     reach-cond Valid (violation (n .cells) (n .control) (n .control .ic / 2)) _ _ (λ e. live-control n _ (omega (arith, h .valid .widths)) refl h .valid)
     (λ e. valid-operate _ _ _ (register-field (fetched (n .cells) (n .control .ic))) (live-record n _ h))
 
-valid-fetch : (n : Machine) → Live n → Valid (reached (fetch (n .cells) (n .control)))
+pub valid-fetch : (n : Machine) → Live n → Valid (reached (fetch (n .cells) (n .control)))
 unfolding fetch
 valid-fetch n h =
     reach-cond Valid (absent (n .cells) (n .control .ic)) _ _ (λ e. h .valid)
@@ -67,13 +67,15 @@ stays-cond : (b : Bool) (x y : CycleResult Machine) → Stays x → Stays y → 
 stays-cond true x y p q = p
 stays-cond false x y p q = q
 
+pub valid-lined : (m : Machine) → Valid m → Valid (machine (m .cells) (lineCleared (m .control) (lineOf (m .control))))
+unfolding lineCleared withIR stateFits
+valid-lined m h = valid-control m _ (omega (arith, h .widths)) (h .state) h
+
 pub cycle-valid : (m : Machine) → inReset m ≡ false → Valid m → Meets Valid (λ k. Valid) (cycle m)
-unfolding cycle lineCleared withIR
+unfolding cycle
 cycle-valid m e h =
-    let live : Live m = record { valid = h; running = e } in
-    stays-cond (ltb (lineOf (m .control)) 24) _ _
-    (valid-enter _ (machine (m .cells) (lineCleared (m .control) (lineOf (m .control)))) (live-control m _ (omega (arith, h .widths)) refl live .valid))
-    (concluded-valid (fetch (m .cells) (m .control)) (valid-fetch m live))
+    stays-cond (ltb (lineOf (m .control)) 24) _ _ (valid-enter _ _ (valid-lined m h))
+    (concluded-valid (fetch (m .cells) (m .control)) (valid-fetch m (record { valid = h; running = e })))
 
 pub valid-joined : (l : ℕ) (m : Machine) → Valid m → Valid (joined l m)
 unfolding raised withIR stateFits

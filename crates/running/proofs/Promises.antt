@@ -4,19 +4,23 @@ use Prim.Native.Nat.{ℕ, zero, suc, _+_, _-_, _*_, _/_, _%_, _≤_, _<_}
 use native.Mathlib.Omega.{arith}
 use native.Mathlib.Nat.{mod-eq-of-lt}
 use mathlib.Core.Path.{_≡_, refl, sym, ap, _∙_}
-use mathlib.Core.Bool.{Bool, true, false, true≢false}
+use mathlib.Core.Bool.{Bool, true, false, cond, true≢false}
 use mathlib.Core.List.{List, [], _∷_}
 use lib.Bits.{bitOr, or-zero-r}
+use lib.Dec.{ltb}
+use lib.ListN.{length}
 use Rattle.machine.specs.declared.Kind.{Kind}
 use Rattle.machine.specs.declared.Outcome.the-variants.{Spent, Interrupted, Reset}
 use Rattle.machine.specs.declared.Refusal.{Refusal}
+use Rattle.machine.specs.declared.Refusal.the-variants.{StoreSize, CellValue, ControlField, Lines, Budget}
 use Rattle.machine.specs.declared.Answer.{Answer}
 use Rattle.machine.specs.declared.Answer.the-variants.{Refused, Ended}
 use Rattle.machine.specs.declared.Verdict.{Verdict}
 use Rattle.machine.specs.declared.Verdict.the-variants.{Accepted, Rejected}
 use Rattle.machine.specs.Store.{word}
+use Rattle.machine.specs.Answers.{kindNumber, verdictNumber}
 use Rattle.machine.specs.Fields.{withIR, raised}
-use Rattle.acceptance.specs.Accept.{judgeMachine, judgeCall, judgeRun}
+use Rattle.acceptance.specs.Accept.{sizeFits, cellsFit, controlFits, judgeMachine, judgeCall, judgeRun}
 use Rattle.definition.specs.Machine.{Machine, machine}
 use Rattle.definition.specs.Protected.{forbiddenIn, InTaskMode, EqualProtected}
 use Rattle.definition.proofs.Isolation.{equal-refl, equal-trans, equal-sym, equal-fewer, forbidden-equal, Isolated, isolated-control}
@@ -26,10 +30,11 @@ use Rattle.running.specs.Calls.{total, call, calls}
 use Rattle.running.specs.Cycle.{cycle}
 use Rattle.running.specs.Run.{inReset, judgeOf, joined, running, runMachine, runList}
 use Rattle.running.specs.Keys.{Pressed, pressedBy, pressingReset, pressingStart, resetKey, startKey}
-use Rattle.running.specs.Promises.{keptFrom, Isolation, EqualEntries, TwoRuns, BudgetList, entriesOf, Counts, CountsOfRun, StaysAccepted, KeysStayAccepted, RefusedRun, RefusedOnly}
+use Rattle.running.specs.Promises.{keptFrom, Isolation, EqualEntries, TwoRuns, BudgetList, entriesOf, Counts, CountsOfRun, StaysAccepted, KeysStayAccepted, RefusedRun, RefusedOnly, refusedNumber, dueRefusal, RefusalNumbers, StoredNumber}
 use Rattle.running.proofs.RunLaws.{run-counts, isRefused, run-made, EndsIn, run-keeps}
 use Rattle.running.proofs.CallLaws.{call-refused, call-run, call-cases, calls-total}
 use Rattle.running.proofs.CycleIsolates.{Entry, cycle-isolates}
+use Rattle.running.proofs.CycleStores.{Stored, cycle-stores}
 use Rattle.running.proofs.CycleValid.{cycle-valid, valid-joined, valid-resetKey, valid-startKey}
 
 -- ---- (e) an accepted machine stays accepted
@@ -88,6 +93,39 @@ refused-only l b m q =
     call-cases inReset cycle judgeOf joined (λ r. r .answer ≡ Refused q → judgeCall (judgeOf m) l b ≡ Rejected q) l b m
     (λ p e f. e ∙ ap (λ (a : Answer). Rejected (refusal-of a q)) f)
     (λ e f. absurd (not-made _ q (run-made inReset cycle b (joined l m)) f))
+
+call-number : (d e : Bool) → verdictNumber (cond d (cond e Accepted (Rejected Budget)) (Rejected Lines)) ≡ cond d (cond e 0 5) 4
+call-number true true = refl
+call-number true false = refl
+call-number false e = refl
+
+judged-number : (a b c : Bool) (l n : ℕ)
+    → verdictNumber (judgeCall (cond a (cond b (cond c Accepted (Rejected ControlField)) (Rejected CellValue)) (Rejected StoreSize)) l n)
+    ≡ cond a (cond b (cond c (cond (ltb l 2097152) (cond (ltb n 65536) 0 5) 4) 3) 2) 1
+judged-number true true true l n = call-number (ltb l 2097152) (ltb n 65536)
+judged-number true true false l n = refl
+judged-number true false c l n = refl
+judged-number false b c l n = refl
+
+not-refused : (a : Answer) → isRefused a ≡ false → refusedNumber a ≡ 0
+not-refused (Refused q) e = absurd (true≢false e)
+not-refused (Ended o) e = refl
+
+pub refusal-numbers : RefusalNumbers
+unfolding runMachine judgeMachine
+refusal-numbers l b m =
+    let due = judged-number (sizeFits (length (m .cells))) (cellsFit (m .cells)) (controlFits (m .control)) l b in
+    call-cases inReset cycle judgeOf joined (λ r. refusedNumber (r .answer) ≡ dueRefusal l b m) l b m (λ q e. sym (ap verdictNumber e) ∙ due)
+    (λ e. not-refused (run inReset cycle b (joined l m) .answer) (run-made inReset cycle b (joined l m)) ∙ sym (ap verdictNumber e) ∙ due)
+
+-- ---- the number in word 8
+
+pub stored-number : StoredNumber
+unfolding runMachine
+stored-number l b m k =
+    call-cases inReset cycle judgeOf joined (λ r. r .answer ≡ Ended (Interrupted k) → word (r .machine .cells) 4 ≡ kindNumber k) l b m
+    (λ q e f. absurd (true≢false (ap isRefused f)))
+    (λ e f. rw f at (run-keeps Valid Stored inReset cycle cycle-stores b (joined l m) (valid-joined l m (accepted-valid m (accepted-machine (judgeOf m) l b e)))))
 
 -- ---- (c) the list of budgets
 

@@ -12,6 +12,7 @@ use Rattle.machine.specs.Store.{word, byte, putWord, absent, forbidden, violati
 use Rattle.machine.specs.Fields.{withIC, withIR}
 use Rattle.machine.specs.Records.{interruptNumber, returnAddress, interruptionProgram}
 use Rattle.machine.specs.Format.{takenApart}
+use Rattle.registers.specs.Reg.{signed}
 use Rattle.integer.specs.Sums.{sum24}
 use Rattle.definition.specs.Machine.{Machine, machine, Effect, ok, fault}
 use Rattle.definition.specs.Codes.{operating}
@@ -59,16 +60,15 @@ enter n s c =
 
 -- ---- Fetch Instruction
 
--- FR := byte(IC); SB := byte(IC + 1): at an even IC one word (law `fetched-bytes`), at an odd one the right half of IC's cell and the left half of
--- the next (docs/DECISIONS.md B2)
+-- FR := byte(IC); SB := byte(IC + 1). At an odd IC they are in two cells (docs/DECISIONS.md B2).
 unfoldable pub fetched : List ℕ → ℕ → ℕ
-fetched s ic = cond (eqb (ic % 2) 0) (word s (ic / 2)) (byte s ic * 4096 + byte s (sum24 ic 1))
+fetched s ic = byte s ic * 4096 + byte s (sum24 ic 1)
 
 -- ---- Decode Instruction
 
 -- SB := signed byte(IC + 1)
 unfoldable pub displacement : ℕ → ℕ
-displacement d = cond (ltb d 2048) d (d + 16773120)
+displacement d = signed 12 24 d
 
 -- if FR(8) <> 0 then SB := SB + AR(0:23), the address of this instruction
 unfoldable pub relative : ℕ → ℕ → ℕ → ℕ

@@ -3,23 +3,24 @@
 -- Assumes nothing.
 use Prim.Native.Nat.{ℕ, _+_, _*_, _/_, _≤_, _<_}
 use mathlib.Core.Path.{_≡_}
-use mathlib.Core.Bool.{Bool, true, false}
+use mathlib.Core.Bool.{true, false, cond}
 use mathlib.Core.List.{List}
+use lib.Dec.{ltb}
+use lib.ListN.{length}
 use Rattle.machine.specs.declared.Kind.{Kind}
 use Rattle.machine.specs.declared.Outcome.the-variants.{Spent, Interrupted, Reset}
 use Rattle.machine.specs.declared.Refusal.{Refusal}
 use Rattle.machine.specs.declared.Answer.{Answer}
 use Rattle.machine.specs.declared.Answer.the-variants.{Refused, Ended}
 use Rattle.machine.specs.declared.Verdict.the-variants.{Accepted, Rejected}
-use Rattle.machine.specs.Store.{word, byte}
-use Rattle.machine.specs.Records.{interruptionProgram}
-use Rattle.acceptance.specs.Accept.{judgeMachine, judgeRun}
-use Rattle.integer.specs.Sums.{sum24}
+use Rattle.machine.specs.Store.{word}
+use Rattle.machine.specs.Records.{interruptNumber, interruptionProgram}
+use Rattle.machine.specs.Answers.{refusalNumber, kindNumber}
+use Rattle.acceptance.specs.Accept.{sizeFits, cellsFit, controlFits, judgeMachine, judgeRun}
 use Rattle.definition.specs.Machine.{Machine}
 use Rattle.definition.specs.Protected.{forbiddenIn, InTaskMode, EqualProtected}
 use Rattle.running.specs.Runs.{Ran, refused}
 use Rattle.running.specs.Calls.{total}
-use Rattle.running.specs.Cycle.{fetched}
 use Rattle.running.specs.Run.{runMachine, runList}
 use Rattle.running.specs.Keys.{pressingReset, pressingStart}
 
@@ -34,7 +35,7 @@ keptFrom (Ended Spent) = 8
 abbrev pub KeepsProtected : Machine → Ran Machine → Type 0
 KeepsProtected m x = InTaskMode m → EqualProtected (keptFrom (x .answer)) m (x .machine)
 
--- (a) isolation, wherever the run is cut
+-- (a) isolation, for every budget
 abbrev pub Isolation : Type 0
 Isolation = (lines budget : ℕ) (m : Machine) → KeepsProtected m (runMachine lines budget m)
 
@@ -46,7 +47,7 @@ pub record EqualEntries (m n : Machine) : Type 0 where
   pub same : m .control .ic ≡ n .control .ic
   pub starts : m .control .ic ≡ word (m .cells) (interruptionProgram / 2) / 2 * 2
 
--- (b) two such runs, each with its own lines and budget, on equal protected parts with word 12 forbidden: if both end interrupted, they end so
+-- (b) two such runs, each with its own lines and budget, on equal protected parts with word 12 forbidden: if both end interrupted, they end in EqualEntries
 abbrev pub TwoRuns : Type 0
 TwoRuns =
     (m n : Machine) (lines₁ budget₁ lines₂ budget₂ : ℕ) (k₁ k₂ : Kind) → InTaskMode m → InTaskMode n
@@ -71,7 +72,7 @@ pub record Counts {M : Type 0} (budget : ℕ) (r : Ran M) : Type 0 where
   pub all : r .answer ≡ Ended Spent → r .executed + r .entries ≡ budget
   pub entry : r .entries ≡ entriesOf (r .answer)
 
--- (d)
+-- (d) the counts of every run
 abbrev pub CountsOfRun : Type 0
 CountsOfRun = (lines budget : ℕ) (m : Machine) → Counts budget (runMachine lines budget m)
 
@@ -94,6 +95,25 @@ RefusedRun = (lines budget : ℕ) (m : Machine) (q : Refusal) → judgeRun (m .c
 abbrev pub RefusedOnly : Type 0
 RefusedOnly = (lines budget : ℕ) (m : Machine) (q : Refusal) → runMachine lines budget m .answer ≡ Refused q → judgeRun (m .cells) (m .control) lines budget ≡ Rejected q
 
--- at every IC of 24 bits what is fetched is byte(IC) and byte(IC + 1), as printed
-abbrev pub FetchedBytes : Type 0
-FetchedBytes = (s : List ℕ) (ic : ℕ) → ic < 16777216 → fetched s ic ≡ byte s ic * 4096 + byte s (sum24 ic 1)
+-- the number of the refusal, 0 where the run is not refused
+abbrev pub refusedNumber : Answer → ℕ
+refusedNumber (Refused q) = refusalNumber q
+refusedNumber (Ended o) = 0
+
+-- the first of the numbers 1 to 5 whose condition is met, 0 for none
+abbrev pub dueRefusal : ℕ → ℕ → Machine → ℕ
+dueRefusal lines budget m =
+    cond (sizeFits (length (m .cells)))
+    (cond (cellsFit (m .cells))
+    (cond (controlFits (m .control))
+    (cond (ltb lines 2097152)
+    (cond (ltb budget 65536) 0 5) 4) 3) 2) 1
+
+abbrev pub RefusalNumbers : Type 0
+RefusalNumbers = (lines budget : ℕ) (m : Machine) → refusedNumber (runMachine lines budget m .answer) ≡ dueRefusal lines budget m
+
+-- word 8 holds the number of the interruption that ended the run
+abbrev pub StoredNumber : Type 0
+StoredNumber =
+    (lines budget : ℕ) (m : Machine) (k : Kind) → runMachine lines budget m .answer ≡ Ended (Interrupted k)
+    → word (runMachine lines budget m .machine .cells) (interruptNumber / 2) ≡ kindNumber k

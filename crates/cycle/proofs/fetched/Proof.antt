@@ -1,5 +1,6 @@
+use mathlib.Core.Path.{_∙_}
 use Rattle.running.specs.Cycle.{fetched}
-use borrow.Author.Tests.{eq-eqb, ne-eqb}
+use Rattle.running.proofs.Fetched.{even-word}
 use borrow.Author.Needs.{needs}
 use Rattle.cycle.proofs.fetched.Statement.{statement}
 use Rattle.cycle.proofs.fetched.Tie as tie
@@ -8,8 +9,7 @@ word-at-requires : tie.Need-word-at-requires
 word-at-requires c κs = search needs
 
 returns : tie.Need-returns
-unfolding fetched
-returns c = rw (eq-eqb _ _ (c .before .if1 .taken), ← (c .word-at .ensures .0))
+returns c = c .word-at .ensures .0 ∙ even-word _ _ (c .before .before .before .pre) (c .before .if1 .taken)
 
 byte-at-requires : tie.Need-byte-at-requires
 byte-at-requires c κs = search needs
@@ -28,7 +28,7 @@ add-result c = search needs
 
 returns-2 : tie.Need-returns-2
 unfolding fetched
-returns-2 c = rw (ne-eqb _ _ (c .before .before .before .if1 .left), ← (c .before .before .byte-at .ensures .0), ← (c .before .sum24 .ensures .0), ← (c .byte-at2 .ensures .0))
+returns-2 c = rw (← (c .before .before .byte-at .ensures .0), ← (c .before .sum24 .ensures .0), ← (c .byte-at2 .ensures .0))
 
 pub fetched-spec : {M : Type 1} → statement M
 fetched-spec =

@@ -14,7 +14,7 @@ raise-requires : tie.Need-raise-requires
 raise-requires c κs = search needs
 
 run-requires : tie.Need-run-requires
-run-requires c κs = fits-a-run _ _ _ _ (sym (c .before .before .enum-told .given .1) ∙ c .before .before .before .before .judge-run .ensures)
+run-requires c κs = rw (c .before .raise .ensures) (fits-a-run _ _ _ _ (sym (c .before .before .enum-told .given .1) ∙ c .before .before .before .before .judge-run .ensures))
 
 enum-known-v : tie.Need-enum-known-v
 enum-known-v c = search needs
