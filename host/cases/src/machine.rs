@@ -34,8 +34,11 @@ impl Machine {
     /// Cells of zero, IC 16, monitor mode, the interruption program at the
     /// last cell, one cycle. All keys are 0, which is forbidden.
     pub fn new(cells: usize) -> Self {
-        let mut control = Control::fresh();
-        control.ic = 16;
+        let control = Control {
+            ic: 16,
+            reset: false,
+            ..Control::fresh()
+        };
         let machine = Machine {
             cells: vec![0; cells],
             control,

@@ -72,6 +72,14 @@ pub fn size(random: &mut Random) -> usize {
     }
 }
 
+/// The fresh record, out of the reset state.
+fn started() -> Control {
+    Control {
+        reset: false,
+        ..Control::fresh()
+    }
+}
+
 /// A random machine that no call refuses.
 pub fn image(random: &mut Random) -> Image {
     if random.one_in(20_000) {
@@ -83,7 +91,7 @@ pub fn image(random: &mut Random) -> Image {
         size,
         low,
         high: Vec::new(),
-        control: Control::fresh(),
+        control: started(),
         long: false,
     };
     set_control(random, &mut image);
@@ -111,7 +119,7 @@ fn largest(random: &mut Random) -> Image {
         size,
         low: (0..16).map(|_| word(random, 32)).collect(),
         high: (0..8).map(|_| word(random, 32)).collect(),
-        control: Control::fresh(),
+        control: started(),
         long: false,
     };
     set_control(random, &mut image);

@@ -43,7 +43,7 @@ struct Flawed(Flaw);
 impl Flawed {
     fn refusal(&self, refusal: Refusal, store: &mut [u32], control: &mut Control) -> Refusal {
         match self.0 {
-            Flaw::RefusalNumber if refusal == Refusal::Block => return Refusal::TapeCell,
+            Flaw::RefusalNumber if refusal == Refusal::BlockPlace => return Refusal::BlockCell,
             Flaw::RefusalChangesStore => store.iter_mut().take(1).for_each(|cell| *cell ^= 1),
             Flaw::RefusalChangesControl => control.ir ^= 1,
             _ => (),

@@ -36,7 +36,8 @@ impl Control {
     /// Storage word that holds the start address.
     pub const START_ADDRESS: u32 = 14;
 
-    /// A record of zeros in monitor mode, interrupts disabled.
+    /// The record after power on (11.3, 14.4): zeros, but bit 0 of PR one, in
+    /// the reset state.
     pub const fn fresh() -> Self {
         Control {
             ic: 0,
@@ -47,15 +48,8 @@ impl Control {
             ex: 0,
             monitor: true,
             enabled: false,
-            reset: false,
+            reset: true,
         }
-    }
-
-    /// The fresh record in the reset state, as after power on (11.3).
-    pub const fn power_on() -> Self {
-        let mut control = Self::fresh();
-        control.reset = true;
-        control
     }
 
     /// Refusal 3: a field outside the widths and rules of document 01.
@@ -68,7 +62,7 @@ impl Control {
         if words_fit && small_fields_fit && state_agrees {
             Ok(())
         } else {
-            Err(Refusal::Control)
+            Err(Refusal::ControlField)
         }
     }
 

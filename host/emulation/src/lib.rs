@@ -1,4 +1,4 @@
-//! An emulation of the RC 4000 inside the loom controller.
+//! An emulation of the RC 4000 for controllers.
 //!
 //! It is written from the papers alone: the RC 4000 reference manual of 1969
 //! (its sections are cited as "14.5") and the scope paper ("01"). Every

@@ -6,27 +6,27 @@ use std::fmt;
 #[derive(Clone, Copy, Debug, PartialEq, Eq, Hash)]
 pub enum Refusal {
     /// 1: fewer than 8 or more than 8,388,608 cells.
-    Cells = 1,
+    StoreSize = 1,
     /// 2: a cell of 134,217,728 or more.
-    Cell = 2,
+    CellValue = 2,
     /// 3: a control field outside its width or the rules.
-    Control = 3,
+    ControlField = 3,
     /// 4: lines with bit 0, 1 or 2 set, or over 24 bits.
     Lines = 4,
     /// 5: a budget over 65,535.
     Budget = 5,
     /// 6: the tape stops inside a header or payload, or before an end record.
-    TapeStops = 6,
+    TapeEnds = 6,
     /// 7: a record kind not 1 to 4.
-    Kind = 7,
+    RecordKind = 7,
     /// 8: a length wrong for the kind.
-    Length = 8,
+    RecordLength = 8,
     /// 9: a block beyond the store.
-    Block = 9,
+    BlockPlace = 9,
     /// 10: a cell of a block of 134,217,728 or more.
-    TapeCell = 10,
-    /// 11: records in the wrong sequence, or bytes after the end.
-    Sequence = 11,
+    BlockCell = 10,
+    /// 11: records in the wrong order, or bytes after the end.
+    RecordOrder = 11,
     /// 12: a tape of over 65,536 bytes.
     TapeLength = 12,
 }
@@ -41,8 +41,18 @@ impl Refusal {
     pub fn from_number(number: u32) -> Option<Self> {
         use Refusal::*;
         let all = [
-            Cells, Cell, Control, Lines, Budget, TapeStops, Kind, Length, Block, TapeCell,
-            Sequence, TapeLength,
+            StoreSize,
+            CellValue,
+            ControlField,
+            Lines,
+            Budget,
+            TapeEnds,
+            RecordKind,
+            RecordLength,
+            BlockPlace,
+            BlockCell,
+            RecordOrder,
+            TapeLength,
         ];
         all.into_iter().find(|refusal| refusal.number() == number)
     }

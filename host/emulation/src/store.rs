@@ -15,7 +15,7 @@ pub fn check_size(cells: usize) -> Result<(), Refusal> {
     if (MINIMUM_CELLS..=MAXIMUM_CELLS).contains(&cells) {
         Ok(())
     } else {
-        Err(Refusal::Cells)
+        Err(Refusal::StoreSize)
     }
 }
 
@@ -25,7 +25,7 @@ pub fn check_store(cells: &[u32]) -> Result<(), Refusal> {
     if cells.iter().all(|&cell| cell < CELL_LIMIT) {
         Ok(())
     } else {
-        Err(Refusal::Cell)
+        Err(Refusal::CellValue)
     }
 }
 

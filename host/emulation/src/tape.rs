@@ -26,7 +26,7 @@ impl RecordKind {
             2 => Ok(RecordKind::Control),
             3 => Ok(RecordKind::End),
             4 => Ok(RecordKind::Remark),
-            _ => Err(Refusal::Kind),
+            _ => Err(Refusal::RecordKind),
         }
     }
 
@@ -41,7 +41,7 @@ impl RecordKind {
         if fits {
             Ok(())
         } else {
-            Err(Refusal::Length)
+            Err(Refusal::RecordLength)
         }
     }
 }
@@ -70,17 +70,17 @@ fn cells_of(payload: &[u8]) -> impl ExactSizeIterator<Item = u32> + '_ {
 /// Reads the next record: refusals 6, 7, 11, 8 and 6 again, in this order.
 fn next_record<'a>(tape: &'a [u8], control_seen: bool) -> Result<(Record<'a>, &'a [u8]), Refusal> {
     if tape.len() < HEADER {
-        return Err(Refusal::TapeStops);
+        return Err(Refusal::TapeEnds);
     }
     let (header, rest) = tape.split_at(HEADER);
     let length = number(header) as usize;
     let kind = RecordKind::from_number(u16::from_le_bytes([header[4], header[5]]))?;
     if control_seen != (kind == RecordKind::End) {
-        return Err(Refusal::Sequence);
+        return Err(Refusal::RecordOrder);
     }
     kind.check_length(length)?;
     if rest.len() < length {
-        return Err(Refusal::TapeStops);
+        return Err(Refusal::TapeEnds);
     }
     let (payload, rest) = rest.split_at(length);
     Ok((Record { kind, payload }, rest))
@@ -90,10 +90,10 @@ fn next_record<'a>(tape: &'a [u8], control_seen: bool) -> Result<(Record<'a>, &'
 fn check_block(payload: &[u8], cells: usize) -> Result<(), Refusal> {
     let mut block = cells_of(payload);
     if first_cell(payload) + block.len() > cells {
-        return Err(Refusal::Block);
+        return Err(Refusal::BlockPlace);
     }
     if block.any(|cell| cell >= CELL_LIMIT) {
-        return Err(Refusal::TapeCell);
+        return Err(Refusal::BlockCell);
     }
     Ok(())
 }
@@ -113,7 +113,7 @@ fn control_of(payload: &[u8]) -> Result<Control, Refusal> {
         reset: flags & 4 != 0,
     };
     if flags > 7 || payload[19] != 0 {
-        return Err(Refusal::Control);
+        return Err(Refusal::ControlField);
     }
     control.check()?;
     Ok(control)
@@ -134,8 +134,8 @@ fn judge(tape: &[u8], cells: usize) -> Result<Control, Refusal> {
             RecordKind::Block => check_block(record.payload, cells)?,
             RecordKind::Control => control = Some(control_of(record.payload)?),
             RecordKind::Remark => (),
-            RecordKind::End if !left.is_empty() => return Err(Refusal::Sequence),
-            RecordKind::End => return control.ok_or(Refusal::Sequence),
+            RecordKind::End if !left.is_empty() => return Err(Refusal::RecordOrder),
+            RecordKind::End => return control.ok_or(Refusal::RecordOrder),
         }
     }
 }

@@ -286,7 +286,7 @@ fn keys() {
     press_reset(&mut machine.store, &mut machine.control).unwrap();
     let reset = Control {
         ic: 16,
-        ..Control::power_on()
+        ..Control::fresh()
     };
     assert_eq!((machine.store[5], machine.control), (16, reset));
     machine.control.ic = 20;
@@ -302,56 +302,33 @@ fn keys() {
 #[test]
 fn a_run_in_the_reset_state_takes_the_lines() {
     let mut store = [0; 8];
-    let mut control = Control::power_on();
+    let mut control = Control::fresh();
     let report = run(&mut store, &mut control, bit(9), 0).unwrap();
     assert_eq!(report.outcome, Outcome::Reset);
     assert_eq!(control.ir, bit(9));
 }
 
+/// A run with too large a budget that is refused and changes nothing.
+fn refused(store: &[u32], control: Control, lines: u32, refusal: Refusal) {
+    let (mut cells, mut after) = (store.to_vec(), control);
+    let answer = run(&mut cells, &mut after, lines, 65_536);
+    assert_eq!(answer, Err(refusal));
+    assert_eq!((&cells[..], after), (store, control));
+}
+
 #[test]
 fn refusals_come_in_their_order_and_change_nothing() {
+    let good_store = [0; 8];
+    let mut bad_store = good_store;
+    bad_store[7] = 134_217_728;
+    let good_control = Control::fresh();
     let bad_control = Control {
         pr: 127,
-        ..Control::fresh()
+        ..good_control
     };
-    let mut bad_store = vec![0; 8];
-    bad_store[7] = 134_217_728;
-    let mut good_store = vec![0; 8];
-    let calls: [(&mut [u32], Control, u32, u32, Refusal); 5] = [
-        (
-            &mut [u32::MAX; 7],
-            bad_control,
-            bit(0),
-            65_536,
-            Refusal::Cells,
-        ),
-        (&mut bad_store, bad_control, bit(1), 65_536, Refusal::Cell),
-        (
-            &mut good_store.clone(),
-            bad_control,
-            bit(2),
-            65_536,
-            Refusal::Control,
-        ),
-        (
-            &mut good_store.clone(),
-            Control::fresh(),
-            1 << 24,
-            65_536,
-            Refusal::Lines,
-        ),
-        (
-            &mut good_store,
-            Control::fresh(),
-            bit(3),
-            65_536,
-            Refusal::Budget,
-        ),
-    ];
-    for (store, control, lines, budget, refusal) in calls {
-        let given = store.to_vec();
-        let mut after = control;
-        assert_eq!(run(store, &mut after, lines, budget), Err(refusal));
-        assert_eq!((store.to_vec(), after), (given, control));
-    }
+    refused(&[u32::MAX; 7], bad_control, bit(0), Refusal::StoreSize);
+    refused(&bad_store, bad_control, bit(1), Refusal::CellValue);
+    refused(&good_store, bad_control, bit(2), Refusal::ControlField);
+    refused(&good_store, good_control, 1 << 24, Refusal::Lines);
+    refused(&good_store, good_control, bit(3), Refusal::Budget);
 }

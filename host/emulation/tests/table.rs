@@ -82,8 +82,11 @@ fn displacement_is_signed() {
 #[test]
 fn relative_address_wraps() {
     let mut store = vec![0; 8_388_608];
-    let mut control = Control::fresh();
-    control.ic = 16_777_214;
+    let mut control = Control {
+        ic: 16_777_214,
+        reset: false,
+        ..Control::fresh()
+    };
     store[8_388_607] = instruction(AL, 0, 2, 0, 4);
     run(&mut store, &mut control, 0, 1).unwrap();
     assert_eq!(store[0], 2);
@@ -129,7 +132,10 @@ fn left_most_line_first() {
 #[test]
 fn eight_cells_pass_and_seven_do_not() {
     let mut control = Control::fresh();
-    assert_eq!(run(&mut [0; 7], &mut control, 0, 0), Err(Refusal::Cells));
+    assert_eq!(
+        run(&mut [0; 7], &mut control, 0, 0),
+        Err(Refusal::StoreSize)
+    );
     assert!(run(&mut [0; 8], &mut control, 0, 0).is_ok());
 }
 
@@ -142,8 +148,11 @@ fn byte_15_of_eight_cells_exists_and_16_does_not() {
     ] {
         let mut store = vec![0; 8];
         store[7] = instruction(BZ, 0, 0, 0, address);
-        let mut control = Control::fresh();
-        control.ic = 14;
+        let mut control = Control {
+            ic: 14,
+            reset: false,
+            ..Control::fresh()
+        };
         let report = run(&mut store, &mut control, 0, 1).unwrap();
         assert_eq!(report.outcome, outcome);
     }
@@ -152,7 +161,7 @@ fn byte_15_of_eight_cells_exists_and_16_does_not() {
 #[test]
 fn budget_65535_passes_and_65536_does_not() {
     let mut store = vec![0; 8];
-    let mut control = Control::power_on();
+    let mut control = Control::fresh();
     assert!(run(&mut store, &mut control, 0, 65_535).is_ok());
     assert_eq!(
         run(&mut store, &mut control, 0, 65_536),

@@ -50,9 +50,13 @@ fn refusal(parts: &[Vec<u8>]) -> Refusal {
 fn the_tape_of_the_paper() {
     let tape = [good_control(), end()].concat();
     let mut store = vec![0; 4096];
-    let mut control = Control::fresh();
+    let mut control = Control {
+        ic: 6,
+        reset: false,
+        ..Control::fresh()
+    };
     load(&mut store, &mut control, &tape).unwrap();
-    assert_eq!(control, Control::power_on());
+    assert_eq!(control, Control::fresh());
     let report = run(&mut store, &mut control, 0, 100).unwrap();
     assert_eq!(report.outcome, Outcome::Reset);
     assert_eq!((report.executed, report.entries, control.ic), (0, 0, 0));
@@ -79,31 +83,47 @@ fn later_blocks_overwrite_and_other_cells_stay() {
 
 #[test]
 fn the_first_remark() {
-    let tape = [record(4, b"loom 7"), record(4, b"x"), good_control(), end()].concat();
+    let tape = [record(4, b"part 7"), record(4, b"x"), good_control(), end()].concat();
     assert_eq!(remark(&tape, 8), Ok(Some(&tape[6..12])));
-    assert_eq!(remark(&tape, 7), Err(Refusal::Cells));
+    assert_eq!(remark(&tape, 7), Err(Refusal::StoreSize));
 }
 
 #[test]
 fn tape_refusals() {
-    assert_eq!(refusal(&[]), Refusal::TapeStops);
-    assert_eq!(refusal(&[good_control()]), Refusal::TapeStops);
-    assert_eq!(refusal(&[vec![20, 0, 0, 0, 2, 0, 0]]), Refusal::TapeStops);
-    assert_eq!(refusal(&[record(0, &[])]), Refusal::Kind);
-    assert_eq!(refusal(&[good_control(), record(5, &[])]), Refusal::Kind);
-    assert_eq!(refusal(&[end()]), Refusal::Sequence);
+    assert_eq!(refusal(&[]), Refusal::TapeEnds);
+    assert_eq!(refusal(&[good_control()]), Refusal::TapeEnds);
+    assert_eq!(refusal(&[vec![20, 0, 0, 0, 2, 0, 0]]), Refusal::TapeEnds);
+    assert_eq!(refusal(&[record(0, &[])]), Refusal::RecordKind);
+    assert_eq!(
+        refusal(&[good_control(), record(5, &[])]),
+        Refusal::RecordKind
+    );
+    assert_eq!(refusal(&[end()]), Refusal::RecordOrder);
     assert_eq!(
         refusal(&[good_control(), record(4, &[])]),
-        Refusal::Sequence
+        Refusal::RecordOrder
     );
-    assert_eq!(refusal(&[record(1, &[0; 4])]), Refusal::Length);
-    assert_eq!(refusal(&[record(1, &[0; 9])]), Refusal::Length);
-    assert_eq!(refusal(&[record(2, &[0; 19])]), Refusal::Length);
-    assert_eq!(refusal(&[record(4, &[0; 256])]), Refusal::Length);
-    assert_eq!(refusal(&[good_control(), record(3, &[0])]), Refusal::Length);
-    assert_eq!(refusal(&[block(15, &[0, u32::MAX])]), Refusal::Block);
-    assert_eq!(refusal(&[block(u32::MAX, &[0])]), Refusal::Block);
-    assert_eq!(refusal(&[block(14, &[0, u32::MAX])]), Refusal::TapeCell);
+    assert_eq!(refusal(&[record(1, &[0; 4])]), Refusal::RecordLength);
+    assert_eq!(refusal(&[record(1, &[0; 9])]), Refusal::RecordLength);
+    assert_eq!(refusal(&[record(2, &[0; 19])]), Refusal::RecordLength);
+    assert_eq!(refusal(&[record(4, &[0; 256])]), Refusal::RecordLength);
+    assert_eq!(
+        refusal(&[good_control(), record(3, &[0])]),
+        Refusal::RecordLength
+    );
+    assert_eq!(refusal(&[block(15, &[0, u32::MAX])]), Refusal::BlockPlace);
+    assert_eq!(refusal(&[block(u32::MAX, &[0])]), Refusal::BlockPlace);
+    assert_eq!(refusal(&[block(14, &[0, u32::MAX])]), Refusal::BlockCell);
+    assert_eq!(
+        refusal(&[good_control(), end(), vec![0]]),
+        Refusal::RecordOrder
+    );
+    assert_eq!(refusal(&[vec![0; 65_537]]), Refusal::TapeLength);
+    assert_eq!(refusal(&[vec![0; 65_536]]), Refusal::RecordKind);
+}
+
+#[test]
+fn control_record_refusals() {
     for (pr, ex, flags, last) in [
         (127, 0, 5, 0),
         (128, 8, 5, 0),
@@ -112,12 +132,9 @@ fn tape_refusals() {
         (128, 0, 8, 0),
         (128, 0, 5, 1),
     ] {
-        assert_eq!(refusal(&[control(pr, ex, flags, last)]), Refusal::Control);
+        assert_eq!(
+            refusal(&[control(pr, ex, flags, last)]),
+            Refusal::ControlField
+        );
     }
-    assert_eq!(
-        refusal(&[good_control(), end(), vec![0]]),
-        Refusal::Sequence
-    );
-    assert_eq!(refusal(&[vec![0; 65_537]]), Refusal::TapeLength);
-    assert_eq!(refusal(&[vec![0; 65_536]]), Refusal::Kind);
 }

@@ -37,7 +37,8 @@ impl Control {
     /// Address of the start address.
     pub const START_ADDRESS: u32 = 14;
 
-    /// A record of zeros in monitor mode, interrupts disabled.
+    /// The record after power on: zeros, but bit 0 of PR one, in the reset
+    /// state.
     pub const fn fresh() -> Self {
         Control {
             ic: 0,
@@ -48,15 +49,8 @@ impl Control {
             ex: 0,
             monitor: true,
             enabled: false,
-            reset: false,
+            reset: true,
         }
-    }
-
-    /// The fresh record in the reset state.
-    pub const fn power_on() -> Self {
-        let mut control = Self::fresh();
-        control.reset = true;
-        control
     }
 }
 
@@ -101,27 +95,27 @@ pub struct Report {
 #[derive(Clone, Copy, Debug, PartialEq, Eq, Hash)]
 pub enum Refusal {
     /// 1: fewer than 8 or more than 8,388,608 cells.
-    Cells = 1,
+    StoreSize = 1,
     /// 2: a cell of 134,217,728 or more.
-    Cell = 2,
+    CellValue = 2,
     /// 3: a control field outside its width or the rules.
-    Control = 3,
+    ControlField = 3,
     /// 4: lines with bit 0, 1 or 2 set, or over 24 bits.
     Lines = 4,
     /// 5: a budget over 65,535.
     Budget = 5,
     /// 6: the tape stops inside a header or payload, or before an end record.
-    TapeStops = 6,
+    TapeEnds = 6,
     /// 7: a record kind not 1 to 4.
-    Kind = 7,
+    RecordKind = 7,
     /// 8: a length wrong for the kind.
-    Length = 8,
+    RecordLength = 8,
     /// 9: a block beyond the store.
-    Block = 9,
+    BlockPlace = 9,
     /// 10: a cell of a block of 134,217,728 or more.
-    TapeCell = 10,
-    /// 11: records in the wrong sequence, or bytes after the end.
-    Sequence = 11,
+    BlockCell = 10,
+    /// 11: records in the wrong order, or bytes after the end.
+    RecordOrder = 11,
     /// 12: a tape of over 65,536 bytes.
     TapeLength = 12,
 }
@@ -135,17 +129,17 @@ impl Refusal {
     /// The refusal with this number.
     pub const fn from_number(number: u32) -> Option<Self> {
         Some(match number {
-            1 => Refusal::Cells,
-            2 => Refusal::Cell,
-            3 => Refusal::Control,
+            1 => Refusal::StoreSize,
+            2 => Refusal::CellValue,
+            3 => Refusal::ControlField,
             4 => Refusal::Lines,
             5 => Refusal::Budget,
-            6 => Refusal::TapeStops,
-            7 => Refusal::Kind,
-            8 => Refusal::Length,
-            9 => Refusal::Block,
-            10 => Refusal::TapeCell,
-            11 => Refusal::Sequence,
+            6 => Refusal::TapeEnds,
+            7 => Refusal::RecordKind,
+            8 => Refusal::RecordLength,
+            9 => Refusal::BlockPlace,
+            10 => Refusal::BlockCell,
+            11 => Refusal::RecordOrder,
             12 => Refusal::TapeLength,
             _ => return None,
         })

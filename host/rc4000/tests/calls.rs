@@ -6,7 +6,7 @@ use rc4000::{Control, Kind, Outcome, Refusal};
 /// A remark, the control record in the reset state, the end.
 fn tape() -> Vec<u8> {
     let mut tape = vec![4, 0, 0, 0, 4, 0];
-    tape.extend(b"loom");
+    tape.extend(b"text");
     tape.extend([20, 0, 0, 0, 2, 0]);
     tape.extend([0; 16]);
     tape.extend([128, 0, 5, 0]);
@@ -17,9 +17,13 @@ fn tape() -> Vec<u8> {
 #[test]
 fn a_tape_is_loaded_and_run() {
     let mut store = vec![0; 4096];
-    let mut control = Control::fresh();
+    let mut control = Control {
+        ic: 6,
+        reset: false,
+        ..Control::fresh()
+    };
     load(&mut store, &mut control, &tape()).unwrap();
-    assert_eq!(control, Control::power_on());
+    assert_eq!(control, Control::fresh());
     let report = run(&mut store, &mut control, 0, 100).unwrap();
     assert_eq!(report.outcome, Outcome::Reset);
     assert_eq!((report.executed, report.entries), (0, 0));
@@ -30,8 +34,8 @@ fn the_remark_is_a_part_of_the_tape() {
     let tape = tape();
     assert_eq!(remark(&tape, 8), Ok(Some(&tape[6..10])));
     assert_eq!(remark(&tape[10..], 8), Ok(None));
-    assert_eq!(remark(&tape, 7), Err(Refusal::Cells));
-    assert_eq!(remark(&[], 8), Err(Refusal::TapeStops));
+    assert_eq!(remark(&tape, 7), Err(Refusal::StoreSize));
+    assert_eq!(remark(&[], 8), Err(Refusal::TapeEnds));
 }
 
 #[test]
@@ -41,6 +45,7 @@ fn exceptions_and_lines() {
     store[7] = 63 << 18;
     let mut control = Control {
         ic: 14,
+        reset: false,
         ..Control::fresh()
     };
     let report = run(&mut store, &mut control, 0, 5).unwrap();
@@ -60,6 +65,7 @@ fn keys() {
     store[7] = 13;
     let mut control = Control {
         ic: 6,
+        reset: false,
         ..Control::fresh()
     };
     press_reset(&mut store, &mut control).unwrap();
@@ -75,14 +81,14 @@ fn refusals() {
         ..Control::fresh()
     };
     let given = control;
-    assert_eq!(run(&mut [], &mut control, 0, 0), Err(Refusal::Cells));
+    assert_eq!(run(&mut [], &mut control, 0, 0), Err(Refusal::StoreSize));
     assert_eq!(
         press_start(&mut [1 << 27; 8], &mut control),
-        Err(Refusal::Cell)
+        Err(Refusal::CellValue)
     );
     assert_eq!(
         press_reset(&mut [0; 8], &mut control),
-        Err(Refusal::Control)
+        Err(Refusal::ControlField)
     );
     assert_eq!(
         load(&mut [0; 8], &mut control, &[0; 65_537]),

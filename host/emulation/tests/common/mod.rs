@@ -22,8 +22,11 @@ pub fn bit(number: u32) -> u32 {
 impl Machine {
     /// 32 cells of zero, IC 16, monitor mode, the interruption program at 62.
     pub fn new() -> Self {
-        let mut control = Control::fresh();
-        control.ic = 16;
+        let control = Control {
+            ic: 16,
+            reset: false,
+            ..Control::fresh()
+        };
         let mut store = vec![0; 32];
         store[6] = 62;
         Machine { store, control }
