@@ -3,9 +3,14 @@
 
 usage: tools/tape_cases.py [CASES ANSWERS]
 
+The stored files are made by
+
+  tools/tape_cases.py host/vectors/base.cases host/vectors/base.answers
+
 The first part is made here: the paper's tape, tapes for every refusal, and for every pair of refusals that stand next to each other in
 document 01's order, tapes that earn both at one record. The judge below, written from document 01, answers them. With two files, in the
-format of `load` and `remark` requests and answers, line by line, these cases follow, with the answers of that file.
+format of `load` and `remark` requests and answers, line by line, these cases follow, with the answers of that file. Where the judge gives
+another answer nothing is written, and the exit status is 1.
 """
 import os, struct, sys
 
@@ -177,7 +182,7 @@ def main():
     for kind, n, cells, tape, answer in cases:
         mine = load(n, cells, tape) if kind == "load" else remark(n, tape)
         if mine != answer:
-            print("the two judges differ:", kind, n, cells, tape.hex()[:200], mine, answer)
+            sys.exit(f"the two judges differ: {kind} {n} {cells} {tape.hex()[:200]}: {mine}, {answer}")
         some = {i: x for i, x in cells.items() if x}
         data += struct.pack("<IIII", 1 if kind == "load" else 2, n, len(some), len(tape))
         data += b"".join(struct.pack("<II", i, x) for i, x in some.items()) + tape

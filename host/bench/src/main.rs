@@ -119,6 +119,14 @@ fn run_only<M: Machine>(machine: M, row: &Row, runs: u32) {
     }
 }
 
+/// Millions, with four significant digits.
+fn millions(figure: f64) -> String {
+    let value = figure / 1e6;
+    let before = value.log10().floor() as i32 + 1;
+    let places = (4 - before).clamp(0, 8) as usize;
+    format!("{value:.places$}")
+}
+
 fn median(mut figures: Vec<f64>) -> f64 {
     figures.sort_by(f64::total_cmp);
     figures[figures.len() / 2]
@@ -173,10 +181,10 @@ fn table(seconds: f64) {
     for row in &ROWS {
         let (tested, emulation, ratio) = measure(row, seconds);
         println!(
-            "{:28} {:>10.3} {:>10.3} {ratio:>7.2}",
+            "{:28} {:>10} {:>10} {ratio:>7.2}",
             row.name,
-            tested / 1e6,
-            emulation / 1e6
+            millions(tested),
+            millions(emulation)
         );
     }
 }
