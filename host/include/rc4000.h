@@ -7,6 +7,10 @@
  * A call that is refused gives the refusal's number, 1 to 12, and leaves the
  * store as it was; the control record comes back as given.
  *
+ * What the caller has to see to, since C does not check it: store points to
+ * `cells` cells and tape to `length` bytes; the two do not overlap, and nothing
+ * else changes them during the call; a bool is 0 or 1. Nothing else is asked.
+ *
  * Link with libcapi.a. */
 #ifndef RC4000_H
 #define RC4000_H
@@ -41,21 +45,38 @@ enum {
     RC4000_LINE = 4       /* interrupted by a line; number is the one stored */
 };
 
+/* The refusals. The store is tested first (1, 2); then control record, lines
+ * and budget (3, 4, 5), or the tape: its length (12), then record by record. */
+enum {
+    RC4000_STORE_SIZE = 1,    /* fewer than 8 or more than 8388608 cells */
+    RC4000_CELL_VALUE = 2,    /* a cell of 134217728 or more */
+    RC4000_CONTROL_FIELD = 3, /* a control field outside its width or the rule of reset */
+    RC4000_LINES = 4,         /* lines with bit 0, 1 or 2 set, or over 24 bits */
+    RC4000_BUDGET = 5,        /* a budget over 65535 */
+    RC4000_TAPE_ENDS = 6,     /* the tape ends inside a record, or with no end record */
+    RC4000_RECORD_KIND = 7,   /* a record kind not 1 to 4 */
+    RC4000_RECORD_LENGTH = 8, /* a length wrong for the kind */
+    RC4000_BLOCK_PLACE = 9,   /* a block beyond the store */
+    RC4000_BLOCK_CELL = 10,   /* a cell of a block of 134217728 or more */
+    RC4000_RECORD_ORDER = 11, /* records in the wrong order, or bytes after the end */
+    RC4000_TAPE_LENGTH = 12   /* a tape of over 65536 bytes */
+};
+
 typedef struct {
     rc4000_control control;
     uint32_t outcome;
-    uint32_t number;   /* 0 unless refused or interrupted by a line */
+    uint32_t number;   /* the refusal or the line's number, else 0 */
     uint32_t executed; /* executed instructions */
     uint32_t entries;  /* interruption entries */
 } rc4000_result;
 
 typedef struct {
     rc4000_control control;
-    uint32_t refusal; /* 0: done */
+    uint32_t refusal; /* 0: done, else a refusal */
 } rc4000_state;
 
 typedef struct {
-    uint32_t refusal; /* 0: the tape loads */
+    uint32_t refusal; /* 0: the tape loads, else a refusal */
     bool found;       /* it has a remark: bytes start to end - 1 of the tape */
     size_t start, end;
 } rc4000_text;

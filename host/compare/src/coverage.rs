@@ -221,7 +221,6 @@ impl Coverage {
         outcome: Outcome,
         store: &[u32],
     ) {
-        let limit = 2 * store.len() as u32;
         let raised = before.ir & before.im;
         self.event_if(
             before.enabled && before.pending != 0 && raised != 0,
@@ -233,35 +232,43 @@ impl Coverage {
                 add(&mut self.lines, number);
                 self.event_if(number == 0, "given IR bit 0");
             }
-            Outcome::Interrupted(Kind::Exception) => match met {
-                None => self.event("IC absent"),
-                Some(met) => {
-                    add(&mut self.excepting, met.code);
-                    let forbidden = before.pr & (128 >> met.key) != 0;
-                    self.event_if(!before.monitor && forbidden, "forbidden fetch");
-                }
-            },
+            Outcome::Interrupted(Kind::Exception) => self.count_exception(before, met),
             _ => {
-                let Some(met) = met else { return };
-                add(&mut self.executed, met.code);
-                add(&mut self.addressing, (met.m, met.x));
-                add(&mut self.keys, met.key);
-                self.event(if after.monitor {
-                    "monitor mode"
-                } else {
-                    "task mode"
-                });
-                self.event_if(
-                    before.monitor && !after.monitor,
-                    "from monitor to task mode",
-                );
-                self.event_if(before.ic % 2 == 1, "odd IC");
-                self.event_if(before.ic / 2 == limit / 2 - 1, "IC in the last cell");
-                self.event_if(before.pending != 0, "modification used");
-                self.event_if(met.code == 9 && before.pending != 0, "AM after AM");
-                self.event_if(met.code == 9 && after.pending == 0, "AM that leaves 0");
+                if let Some(met) = met {
+                    let last = before.ic as usize / 2 == store.len() - 1;
+                    self.event_if(last, "IC in the last cell");
+                    self.count_executed(before, after, met);
+                }
             }
         }
+    }
+
+    fn count_exception(&mut self, before: &Control, met: Option<&Met>) {
+        let Some(met) = met else {
+            return self.event("IC absent");
+        };
+        add(&mut self.excepting, met.code);
+        let forbidden = before.pr & (128 >> met.key) != 0;
+        self.event_if(!before.monitor && forbidden, "forbidden fetch");
+    }
+
+    fn count_executed(&mut self, before: &Control, after: &Control, met: &Met) {
+        add(&mut self.executed, met.code);
+        add(&mut self.addressing, (met.m, met.x));
+        add(&mut self.keys, met.key);
+        self.event(if after.monitor {
+            "monitor mode"
+        } else {
+            "task mode"
+        });
+        self.event_if(
+            before.monitor && !after.monitor,
+            "from monitor to task mode",
+        );
+        self.event_if(before.ic % 2 == 1, "odd IC");
+        self.event_if(before.pending != 0, "modification used");
+        self.event_if(met.code == 9 && before.pending != 0, "AM after AM");
+        self.event_if(met.code == 9 && after.pending == 0, "AM that leaves 0");
     }
 
     /// Counts shift counts and the classes of floating-point operands.

@@ -239,8 +239,9 @@ fn place_of(random: &mut Random, records: &mut Vec<Record>, kind: u16, size: usi
     0
 }
 
-fn damage_records(random: &mut Random, records: &mut Vec<Record>, damage: Damage, size: usize) {
-    let kind = match damage {
+/// The kind of record that a damage is done to or beside.
+fn kind_for(damage: Damage) -> u16 {
+    match damage {
         Damage::BlockLength
         | Damage::BlockBeyond
         | Damage::BlockFarBeyond
@@ -248,8 +249,11 @@ fn damage_records(random: &mut Random, records: &mut Vec<Record>, damage: Damage
         Damage::RemarkLength => REMARK,
         Damage::EndLength | Damage::NoEnd => END,
         _ => CONTROL,
-    };
-    let place = place_of(random, records, kind, size);
+    }
+}
+
+fn damage_records(random: &mut Random, records: &mut Vec<Record>, damage: Damage, size: usize) {
+    let place = place_of(random, records, kind_for(damage), size);
     match damage {
         Damage::NoEnd => {
             records.remove(place);
