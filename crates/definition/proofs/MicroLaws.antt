@@ -17,7 +17,7 @@ abbrev pub reached : Effect → Machine
 reached (ok m) = m
 reached (fault f m) = m
 
--- P outlives every change that an unprivileged instruction makes: a register, a store that is no violation, four fields of the control record
+-- P holds after every change that an unprivileged instruction makes: a register, a store that is no violation, four fields of the control record
 pub record Closed (P : Machine → Type 0) : Type 0 where
   pub register : (i v : ℕ) (n : Machine) → i < 4 → P n → P (machine (putWord (n .cells) i v) (n .control))
   pub stored : (i v : ℕ) (n : Machine) → violation (n .cells) (n .control) i ≡ false → P n → P (machine (putWord (n .cells) i v) (n .control))

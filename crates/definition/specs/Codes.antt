@@ -9,6 +9,7 @@ use Rattle.definition.specs.Machine.{Machine, machine, Effect}
 use Rattle.definition.specs.MicroOps.{perform}
 use Rattle.definition.specs.Meaning.{Op, AM, AL, AC, HL, HS, RL, RS, RX, DL, DS, BZ, BL, BA, BS, WA, WS, WM, WD, AA, SS, CI, CF, FA, FS, FM, FD, LA, LO, LX, AS, AD, LS, LD, NS, ND, JL, SH, SL, SE, SN, SO, SZ, SX, SP, JE, JD, IC, IS, ML, MS, XL, XS, PL, PS, KL, KS, IO, AW, None, meaning}
 
+-- Appendix A.2: the numeric code of an operation
 pub record Code : Type 0 where
   pub number : ℕ
   pub op : Op

@@ -68,7 +68,7 @@ meaning WS sb w m =
     unprivileged (clearFlags ∷ testAddress sb ∷ setW (always (r .word)) ∷ testInteger r)
 -- Multiply Integer Word: Test Address; ..; Wpre := AR(0:23); W := BR. EX is unchanged
 meaning WM sb w m = unprivileged (testAddress sb ∷ setPair (wm (regW w m) (wordAt sb m)) [])
--- Divide Integer Word: EX(22:23) := 0; Test Address; ..; Wpre := AR(0:23); W := BR
+-- Divide Integer Word: EX(22:23) := 0; Test Address; ..; Wpre := AR(0:23); W := BR; Quotient Overflow: IR(1) := EX(22) := 1, the pair is kept
 meaning WD sb w m =
     let r = wd (regPre w m) (regW w m) (wordAt sb m) in
     unprivileged (clearFlags ∷ testAddress sb ∷ overflow integerOverflow (always (r .over)) ∷ setWpre (always (r .pre)) ∷ setW (always (r .word)) ∷ [])
@@ -84,7 +84,7 @@ meaning SS sb w m =
     let n = afterW w (r .word) m in
     let q = differenceWithCarry (regPre w n) (firstAt sb n) (r .carry) in
     unprivileged (clearFlags ∷ testAddress sb ∷ setW (always (r .word)) ∷ setWpre (always (q .word)) ∷ testInteger q)
--- Convert Integer to Floating: EX(22:23) := 0; ..; Wfrac := AF(0:35); Wexp := SC(12:23)
+-- Convert Integer to Floating: EX(22:23) := 0; ..; if SC(11) <> SC(12) then EX(22) := IR(2) := 1; Wfrac := AF(0:35); Wexp := SC(12:23)
 meaning CI sb w m =
     let r = ci (regW w m) sb in
     unprivileged (clearFlags ∷ overflow floatingOverflow (always (r .over)) ∷ setWpre (always (r .pre)) ∷ setW (always (r .word)) ∷ [])
@@ -117,7 +117,7 @@ meaning AS sb w m =
 meaning AD sb w m =
     let r = arithmetic 48 sb (pair (m .cells) w) in
     unprivileged (clearFlags ∷ overflow integerOverflow (always (r .over)) ∷ setPair (r .word) [])
--- Shift Single, Double Logically
+-- Shift Single, Double Logically: if abs(SB) >= 64 then SB := sign(SB)*48; shiftright W, -SB times, if SB < 0, else shiftleft W, SB times
 meaning LS sb w m = unprivileged (setW (always (logical 24 sb (regW w m))) ∷ [])
 meaning LD sb w m = unprivileged (setPair (logical 48 sb (pair (m .cells) w)) [])
 -- Normalize Single, Double: W is shifted; Test Address; Test Protection; byte(SB) := SC(12:23)
@@ -134,7 +134,8 @@ meaning SH sb w m = unprivileged (skipIf (λ n. isHigh (regW w n) sb) ∷ [])
 meaning SL sb w m = unprivileged (skipIf (λ n. isLow (regW w n) sb) ∷ [])
 meaning SE sb w m = unprivileged (skipIf (λ n. isEqual (regW w n) sb) ∷ [])
 meaning SN sb w m = unprivileged (skipIf (λ n. isNotEqual (regW w n) sb) ∷ [])
--- Skip if Register Bits One, Zero; Skip if No Exceptions, with AR := positive EX
+-- Skip if Register Bits One, Zero, if No Exceptions: for bit := 0 step 1 until 23 do AR(bit) := if SB(bit) = 1 then not W(bit) (W(bit); EX) else 0;
+-- if AR(0:23) = 0 then IC := IC + 2
 meaning SO sb w m = unprivileged (skipIf (λ n. bitsOne (regW w n) sb) ∷ [])
 meaning SZ sb w m = unprivileged (skipIf (λ n. bitsZero (regW w n) sb) ∷ [])
 meaning SX sb w m = unprivileged (skipIf (λ n. bitsZero (n .control .ex % 8) sb) ∷ [])
@@ -167,4 +168,5 @@ meaning KS sb w m = privileged (plain (testAddress sb) ∷ setKey sb (regW w) �
 meaning IO sb w m = privileged (plain (setEX (λ n. n .control .ex / 4 * 4 + 2)) ∷ [])
 -- Autoload Word: Test Mode; ..; if disconnected(0) then goto Reset System
 meaning AW sb w m = autoload
+-- an unassigned code: Instruction Exception
 meaning None sb w m = unassigned

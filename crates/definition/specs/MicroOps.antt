@@ -47,8 +47,11 @@ pub data MonitorOp : Type 0 where
   plain : MicroOp → MonitorOp
   -- protection key(a) := v
   setKey : ℕ → Value → MonitorOp
+  -- PR := v; PR(0) := 1
   setPR : Value → MonitorOp
+  -- IM := v
   setIM : Value → MonitorOp
+  -- IR := v
   setIR : Value → MonitorOp
   -- interrupt disabled := not e
   setEnabled : Bool → MonitorOp
@@ -101,7 +104,7 @@ unfoldable pub monitorSteps : ℕ → List MonitorOp → Machine → Effect
 monitorSteps w [] m = ok m
 monitorSteps w (d ∷ ds) m = bind (monitorStep w d m) (λ n. monitorSteps w ds n)
 
--- Test Mode: if not monitor mode then goto Instruction Exception
+-- an operation; the privileged ones begin with Test Mode: if not monitor mode then goto Instruction Exception
 unfoldable pub perform : ℕ → Operation → Machine → Effect
 perform w (unprivileged ds) m = microSteps w ds m
 perform w (privileged ds) m = cond (inTask (m .control)) (fault Privileged m) (monitorSteps w ds m)

@@ -26,6 +26,7 @@ xorBit x y = cond (not (eqb x y)) 1 0
 abbrev pub clearBit : ℕ → ℕ → ℕ
 clearBit x y = cond (eqb y 1) 0 x
 
+-- LA, LO, LX and IC, on 24 bits
 unfoldable pub logicalAnd : ℕ → ℕ → ℕ
 logicalAnd a b = each andBit 24 a b
 

@@ -10,6 +10,7 @@ use Rattle.machine.specs.declared.Control.{Control}
 unfoldable pub inTask : Control → Bool
 inTask c = not (c .monitor)
 
+-- IC := v, and so on for the other fields
 unfoldable pub withIC : Control → ℕ → Control
 withIC c v = record { ic = v % 16777216; ir = c .ir; im = c .im; pending = c .pending; pr = c .pr; ex = c .ex; monitor = c .monitor; enabled = c .enabled; reset = c .reset }
 

@@ -1,5 +1,5 @@
 // The machine's values, and one total function for each primitive on cells and control record: a cell that is not there reads as 0, and a write
-// to it does nothing; a value is reduced to the width of what it goes into. So no function asks anything of its caller.
+// to it does nothing; a value is reduced to the width of what it goes into. So no public function asks anything of its caller.
 ghost use mathlib.Core.Path.{_≡_};
 ghost use Prim.Native.Nat.{ℕ, _+_, _*_, _/_, _%_, _<_};
 ghost use lib.ListN.{getD, set};

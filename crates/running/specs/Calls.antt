@@ -15,6 +15,7 @@ total b (c ∷ cs) = b + total c cs
 
 -- `judge` has the refusals 1 to 3, `join l m` the lines in the interrupt register
 module _ {M : Type 0} (inReset : M → Bool) (cycle : M → CycleResult M) (judge : M → Verdict) (join : ℕ → M → M) where
+  -- the refusals 1 to 5; then the lines join and the cycles are made
   unfoldable pub call : ℕ → ℕ → M → Ran M
   call l b m = elim (judgeCall (judge m) l b) [ Accepted ↦ run inReset cycle b (join l m) | Rejected q ↦ refused q m ]
 

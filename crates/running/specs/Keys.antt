@@ -28,10 +28,12 @@ startRecord c a = record { ic = a / 2 * 2; ir = c .ir; im = c .im; pending = c .
 unfoldable pub startKey : List ℕ → Control → Machine
 startKey s c = cond (c .reset) (machine s (startRecord c (word s (startAddress / 2)))) (machine s c)
 
+-- a refused key changes nothing
 abbrev pub pressedBy : Verdict → Machine → Machine → Pressed
 pressedBy Accepted m n = record { machine = n; verdict = Accepted }
 pressedBy (Rejected q) m n = record { machine = m; verdict = Rejected q }
 
+-- the refusals 1 to 3, then the key
 unfoldable pub pressingReset : List ℕ → Control → Pressed
 pressingReset s c = pressedBy (judgeMachine s c) (machine s c) (resetKey s c)
 

@@ -155,7 +155,7 @@ store-to-forbidden-register :
 unfolding opened
 store-to-forbidden-register = refl
 
--- the same in an allowed cell: one instruction more, and the next address is absent
+-- the same with W3 allowed: the store is made, and the budget is spent
 store-to-allowed-register :
     runMachine 0 1 (machine (16777221 ∷ 16777222 ∷ 0 ∷ 16777216 ∷ 16777216 ∷ 16777216 ∷ 16777240 ∷ 22806534 ∷ []) (task 14)) .answer ≡ Ended Spent
 unfolding opened

@@ -45,7 +45,7 @@ as-minus-1 : arithmetic 24 8388608 16777215 ≡ record { word = 16777215; over =
 unfolding arithmetic places iter
 as-minus-1 = refl
 
--- 63 places and 64, which count as 48
+-- 63 places leave nothing, 47 the last bit
 ld-63 : logical 48 63 1 ≡ 0
 unfolding logical places iter
 ld-63 = refl

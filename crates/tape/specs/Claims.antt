@@ -43,6 +43,6 @@ abbrev pub LoadedMachines : Type 0
 LoadedMachines =
     (t s : List ℕ) (c : Control) → loading t s c .state .verdict ≡ Accepted → judgeMachine (loading t s c .cells) (loading t s c .state .control) ≡ Accepted
 
--- `same-verdict`: the reader of the first remark judges as the loader does, for every store of that many cells that refusal 2 spares
+-- `same-verdict`: the reader of the first remark judges as the loader does, for every store of that many cells whose cells pass test 2
 abbrev pub SameVerdict : Type 0
 SameVerdict = (t s : List ℕ) → cellsFit s ≡ true → judgeReading t (length s) ≡ judgeLoad t s

@@ -1,4 +1,4 @@
--- Which refusal a tape earns (document 01, "Who can be refused, for what": whoever punched the tape), for a store of n cells.
+-- The refusal of a tape (document 01, "Who can be refused, for what": whoever punched the tape), for a store of n cells.
 -- Assumes nothing.
 use Prim.Native.Nat.{ℕ, _+_, _%_}
 use mathlib.Core.Bool.{Bool, false, not, cond}

@@ -41,6 +41,7 @@ abbrev pub judgeThen : Verdict → Verdict → Verdict
 judgeThen (Rejected r) v = Rejected r
 judgeThen Accepted v = v
 
+-- the refusals of a load, the store's first
 unfoldable pub judgeLoad : List ℕ → List ℕ → Verdict
 judgeLoad t s = judgeThen (judgeStore s) (judgeTape (length s) t)
 
@@ -53,6 +54,6 @@ abbrev pub loadedBy : Verdict → List ℕ → List ℕ → Control → Loaded
 loadedBy (Rejected r) t s c = record { cells = s; state = record { control = c; verdict = Rejected r } }
 loadedBy Accepted t s c = record { cells = loadRecords s (recordsOf t); state = record { control = loadedControl t; verdict = Accepted } }
 
--- the tape t into a store of the cells s, with the control record c at hand
+-- the tape t into a store of the cells s, with the caller's control record c
 unfoldable pub loading : List ℕ → List ℕ → Control → Loaded
 loading t s c = loadedBy (judgeLoad t s) t s c

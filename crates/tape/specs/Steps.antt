@@ -1,4 +1,4 @@
--- One record to the judge and to the hunt, and what the loader relies on in the records of an accepted tape.
+-- For the functions inside the crate; no public contract rests on it. One record to the judge and to the hunt, and what the loader relies on in the records of an accepted tape.
 -- Assumes nothing.
 use Prim.Native.Nat.{ℕ, _+_, _≤_, _<_}
 use mathlib.Core.Path.{_≡_}
