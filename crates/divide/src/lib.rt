@@ -1,6 +1,6 @@
 // Divide Integer Word, by its steps. ARBR, 49 bits, is held in a u64.
 ghost use mathlib.Core.Path.{_≡_};
-ghost use Prim.Native.Nat.{_+_, _-_, _*_, _/_, _%_, _^_, _<_};
+ghost use Prim.Native.Nat.{_^_, _<_};
 ghost use Rattle.divide.specs.Wd.{wdStep, wdLoop, abs24, kept, stored, wdSign, wdCorrection, wdEnd, wd};
 
 // Wpre and W, and 1 where the quotient does not fit and the pair is kept.

@@ -1,10 +1,9 @@
 -- Add Floating, Subtract Floating (manual, 14.8).
-use Prim.Native.Nat.{ℕ, _+_, _-_, _*_, _/_, _%_, _^_}
+use Prim.Native.Nat.{ℕ, _+_, _-_, _%_, _^_}
 use mathlib.Core.Path.{_≡_, refl}
 use mathlib.Core.Bool.{Bool, true, false, cond}
 use lib.Dec.{ltb, leb}
 use Rattle.registers.specs.Reg.{asr, iter, until}
-use Rattle.rounding.specs.declared.Unpacked.{Unpacked}
 use Rattle.rounding.specs.declared.Pair.{Pair}
 use Rattle.rounding.specs.Round.{normalizeRound, normalizeOnce, leftShifts, afLeft}
 use Rattle.rounding.specs.Store.{preciseStore, roundStore, precise}

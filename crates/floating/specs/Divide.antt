@@ -1,7 +1,7 @@
 -- Divide Floating (manual, 14.8). BF(0:35) has 36 bits; x is signed SF.
-use Prim.Native.Nat.{ℕ, zero, suc, _+_, _-_, _*_, _/_, _%_, _^_}
+use Prim.Native.Nat.{ℕ, _+_, _-_, _*_, _/_, _%_, _^_}
 use mathlib.Core.Path.{_≡_, refl}
-use mathlib.Core.Bool.{Bool, true, false, not, cond}
+use mathlib.Core.Bool.{Bool, not, cond}
 use lib.Dec.{eqb}
 use Rattle.registers.specs.Reg.{bit, sign, signed, shl, until}
 use Rattle.rounding.specs.declared.Unpacked.{Unpacked}

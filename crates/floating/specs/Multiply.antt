@@ -1,10 +1,9 @@
 -- Multiply Floating (manual, 14.8). BF(0:35) has 36 bits.
-use Prim.Native.Nat.{ℕ, _+_, _-_, _*_, _/_, _%_, _^_}
+use Prim.Native.Nat.{ℕ, _+_, _*_, _/_, _%_, _^_}
 use mathlib.Core.Path.{_≡_, refl}
 use mathlib.Core.Bool.{cond}
 use lib.Dec.{eqb}
 use Rattle.registers.specs.Reg.{asr, iter, until}
-use Rattle.rounding.specs.declared.Unpacked.{Unpacked}
 use Rattle.rounding.specs.declared.Pair.{Pair}
 use Rattle.rounding.specs.Round.{normalizeRound, normalizeOnce, leftShifts, afLeft}
 use Rattle.rounding.specs.Store.{roundStore, precise}

@@ -1,6 +1,6 @@
 // AF, 39 bits, with signed SF and SC.
 ghost use mathlib.Core.Path.{_≡_};
-ghost use Prim.Native.Nat.{_+_, _-_, _*_, _/_, _%_, _^_, _<_};
+ghost use Prim.Native.Nat.{_^_, _<_};
 ghost use Rattle.registers.specs.Reg.{asr, iter};
 ghost use Rattle.floating.specs.Operands.{signedSF, signedExponent, addAF, subAF};
 

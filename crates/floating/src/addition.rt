@@ -1,6 +1,6 @@
 // Add Floating and Subtract Floating.
 ghost use mathlib.Core.Path.{_≡_};
-ghost use Prim.Native.Nat.{_+_, _-_, _*_, _/_, _%_, _^_, _<_};
+ghost use Prim.Native.Nat.{_^_, _<_};
 ghost use Rattle.registers.specs.Reg.{asr, iter};
 ghost use Rattle.floating.specs.Add.{faSum, faNegligible, faAlign, faByDifference, addFloating};
 use super::Operands;

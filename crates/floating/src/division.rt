@@ -1,6 +1,6 @@
 // Divide Floating: the loop on AF and BF.
 ghost use mathlib.Core.Path.{_≡_};
-ghost use Prim.Native.Nat.{_+_, _-_, _*_, _/_, _%_, _^_, _<_};
+ghost use Prim.Native.Nat.{_+_, _^_, _<_};
 ghost use Rattle.floating.specs.Divide.{fdStart, fdAdd, fdStep, fdLoop, fdResult, divideFloating};
 use super::Operands;
 use super::accumulator;

@@ -1,6 +1,6 @@
 // Multiply Floating: 35 steps on AF and BF, and a last subtraction.
 ghost use mathlib.Core.Path.{_≡_};
-ghost use Prim.Native.Nat.{_+_, _-_, _*_, _/_, _%_, _^_, _<_};
+ghost use Prim.Native.Nat.{_+_, _*_, _/_, _^_, _<_};
 ghost use Rattle.floating.specs.Multiply.{fmStep, fmEnd, fmLoop, multiplyFloating};
 use super::Operands;
 use super::accumulator;

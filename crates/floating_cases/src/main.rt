@@ -1,6 +1,6 @@
 // Runs FA, FS, FM, FD, CI and CF over edge operands and drawn ones. One line for each: name, number of cases, checksum of the results.
 // tools/models/floating.py makes the expected output.
-ghost use Prim.Native.Nat.{_+_, _*_, _^_, _<_};
+ghost use Prim.Native.Nat.{_^_, _<_};
 use floating::Converted;
 use rounding::Pair;
 

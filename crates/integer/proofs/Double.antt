@@ -1,9 +1,8 @@
 -- Two passes of the adder, the carry of the first going into the second, are one sum at 48 bits. Assumes nothing.
-use mathlib.Core.Path.{_≡_, refl, ap, ap₂, _∙_, sym}
-use Prim.Native.Nat.{ℕ, zero, suc, _+_, _-_, _*_, _/_, _%_, _^_, _≤_, _<_}
+use mathlib.Core.Path.{_≡_, ap, ap₂, _∙_}
+use Prim.Native.Nat.{ℕ, _+_, _-_, _*_, _/_, _%_, _^_, _<_}
 use native.Mathlib.Omega.{arith}
 use Rattle.registers.specs.Reg.{signed, inverse}
-use Rattle.integer.specs.declared.Sum.{Sum}
 use Rattle.integer.specs.Sums.{adder, sum, difference, sumWithCarry, differenceWithCarry}
 use Rattle.integer.specs.Claims.{DoubleSum, DoubleDifference}
 

@@ -1,7 +1,7 @@
 -- Logical operations (manual, 14.8 LA, LO, LX, IC): for bit := 0 step 1 until 23 do W(bit) := the rule of W(bit) and SB(bit).
-use Prim.Native.Nat.{ℕ, zero, suc, _+_, _-_, _*_, _/_, _%_, _^_}
+use Prim.Native.Nat.{ℕ, zero, suc, _+_, _*_, _^_}
 use mathlib.Core.Path.{_≡_, refl}
-use mathlib.Core.Bool.{Bool, true, false, not, cond, _&&_, _||_}
+use mathlib.Core.Bool.{not, cond, _&&_, _||_}
 use lib.Dec.{eqb}
 use Rattle.registers.specs.Reg.{bit}
 

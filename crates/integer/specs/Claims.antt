@@ -1,7 +1,6 @@
 -- What is proved of the definitions, beside the contracts. Proved in proofs/Double.antt.
-use Prim.Native.Nat.{ℕ, _+_, _-_, _*_, _%_, _^_, _≤_, _<_}
+use Prim.Native.Nat.{ℕ, _+_, _-_, _*_, _%_, _^_, _<_}
 use mathlib.Core.Path.{_≡_}
-use Rattle.integer.specs.declared.Sum.{Sum}
 use Rattle.integer.specs.Sums.{sum, difference, sumWithCarry, differenceWithCarry}
 
 -- AA: W by the first sum, then Wpre with its carry, is the sum of the two double words at 48 bits

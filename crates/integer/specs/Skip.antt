@@ -1,9 +1,9 @@
 -- Skip tests (manual, 14.8 SH, SL, SE, SN, SO, SZ, SX): the following instruction is skipped if the test holds.
-use Prim.Native.Nat.{ℕ, zero, suc, _+_, _-_, _*_, _/_, _%_, _^_}
+use Prim.Native.Nat.{ℕ, _+_, _%_, _^_}
 use mathlib.Core.Path.{_≡_, refl}
 use mathlib.Core.Bool.{Bool, true, false, not, cond, _&&_}
 use lib.Dec.{eqb, ltb, leb}
-use Rattle.registers.specs.Reg.{sign, signed, inverse}
+use Rattle.registers.specs.Reg.{signed, inverse}
 use Rattle.integer.specs.Bitwise.{each}
 
 -- AR := signed W - signed SB, all 25 bits

@@ -1,7 +1,7 @@
 -- Integer sums (manual, 14.3; 14.7 Test Integer; 14.8 WA, WS, AC, AA, SS): AR has 25 bits, AR(-1) the left-most.
-use Prim.Native.Nat.{ℕ, zero, suc, _+_, _-_, _*_, _/_, _%_, _^_}
+use Prim.Native.Nat.{ℕ, _+_, _/_, _%_, _^_}
 use mathlib.Core.Path.{_≡_, refl}
-use Rattle.registers.specs.Reg.{bit, sign, signed, inverse, unlike}
+use Rattle.registers.specs.Reg.{bit, signed, inverse, unlike}
 use Rattle.integer.specs.declared.Sum.{Sum}
 
 -- One pass of the adder, with a carry in: AR := A + B + c; W := AR(0:23); Test Integer: if AR(-1) <> AR(0) then overflow; EX(23) := carry.

@@ -1,6 +1,6 @@
 // Integer sums, logical operations and skip tests on words of 24 bits, held in u32.
 ghost use mathlib.Core.Path.{_≡_};
-ghost use Prim.Native.Nat.{_+_, _-_, _*_, _/_, _%_, _^_, _<_};
+ghost use Prim.Native.Nat.{_+_, _%_, _^_, _<_};
 ghost use Rattle.integer.specs.Sums.{adder, sum, difference, sumWithCarry, differenceWithCarry, sum24};
 ghost use Rattle.integer.specs.Bitwise.{logicalAnd, logicalOr, logicalXor, cleared};
 ghost use Rattle.integer.specs.Skip.{comparison, isHigh, isLow, isEqual, isNotEqual, bitsOne, bitsZero};

@@ -7,7 +7,7 @@ use native.Mathlib.Nat.{mul-le-mul-left, mul-le-mul-right, mul-add, add-mul-mod-
 use native.Mathlib.Decide.{decLt}
 use native.Mathlib.Numerals.{add-one, one-add}
 use lib.Pow.{mod-pow-add, shr-shr, pow-add, pow-pos}
-use borrow.Author.Tests.{eq-eqb, ne-eqb}
+use borrow.Author.Tests.{eq-eqb}
 use Rattle.registers.specs.Reg.{signed, iter}
 use Rattle.multiply.specs.Wm.{wmStep, wmLast, wm}
 use Rattle.multiply.specs.Claims.{ProductLaw}

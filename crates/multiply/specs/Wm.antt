@@ -1,9 +1,9 @@
 -- Multiply Integer Word (manual, 14.8 WM): ARBR has 49 bits, AR(-1:23) and BR(0:23); x is signed SB, 25 bits.
-use Prim.Native.Nat.{ℕ, zero, suc, _+_, _-_, _*_, _/_, _%_, _^_}
+use Prim.Native.Nat.{ℕ, _+_, _*_, _%_, _^_}
 use mathlib.Core.Path.{_≡_, refl}
 use mathlib.Core.Bool.{cond}
 use lib.Dec.{eqb}
-use Rattle.registers.specs.Reg.{bit, sign, signed, asr, addAR, subAR, iter}
+use Rattle.registers.specs.Reg.{signed, asr, addAR, subAR, iter}
 
 -- if BR(23) = 1 then AR := AR + signed SB; ARBR(0:47) := ARBR(-1:46)
 unfoldable pub wmStep : ℕ → ℕ → ℕ

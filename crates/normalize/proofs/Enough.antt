@@ -1,14 +1,12 @@
 -- The bound of `normalize` suffices: the two left-most bits of what it gives differ. Assumes nothing.
-use mathlib.Core.Path.{_≡_, refl, ap, ap₂, _∙_, sym}
-use mathlib.Core.Bool.{Bool, true, false, not}
-use Prim.Native.Nat.{ℕ, zero, suc, _+_, _-_, _*_, _/_, _%_, _^_, _≤_, _<_}
+use mathlib.Core.Path.{_≡_, refl}
+use mathlib.Core.Bool.{true, false}
+use Prim.Native.Nat.{ℕ, _+_, _^_, _≤_, _<_}
 use native.Mathlib.Omega.{arith}
-use lib.Dec.{eqb}
 use borrow.Author.Tests.{eqb-true, not-false}
-use Rattle.registers.specs.Reg.{until}
 use Rattle.registers.proofs.Loops.{until-ends}
 use Rattle.normalize.specs.declared.Normal.{Normal}
-use Rattle.normalize.specs.Norm.{normal, normalAt, normStep, normalize}
+use Rattle.normalize.specs.Norm.{normalAt, normStep, normalize}
 use Rattle.normalize.specs.Claims.{NormalizingEnds}
 use Rattle.normalize.proofs.Grow.{Apart, grow, apart-lt}
 

@@ -1,10 +1,9 @@
 -- A register of 24 bits, placed at the left of 48 bits, is normalized as it is by itself. Assumes nothing.
-use mathlib.Core.Path.{_≡_, refl, ap, ap₂, _∙_, sym}
-use mathlib.Core.Bool.{Bool, true, false, not}
-use Prim.Native.Nat.{ℕ, zero, suc, _+_, _-_, _*_, _/_, _%_, _^_, _≤_, _<_}
+use mathlib.Core.Path.{_≡_, ap, ap₂, _∙_}
+use mathlib.Core.Bool.{not}
+use Prim.Native.Nat.{ℕ, _+_, _*_, _/_, _%_, _^_}
 use native.Mathlib.Omega.{arith}
 use lib.Dec.{eqb}
-use Rattle.registers.specs.Reg.{until}
 use Rattle.registers.proofs.Loops.{until-map}
 use Rattle.normalize.specs.declared.Normal.{Normal}
 use Rattle.normalize.specs.Norm.{normal, normalAt, normStep, normalize}

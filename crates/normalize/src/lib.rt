@@ -1,6 +1,6 @@
 // Normalizing a register of 48 bits; narrower ones stand at its left.
 ghost use mathlib.Core.Path.{_≡_};
-ghost use Prim.Native.Nat.{_+_, _-_, _*_, _/_, _%_, _^_, _<_, _≤_};
+ghost use Prim.Native.Nat.{_^_, _<_};
 ghost use Rattle.normalize.specs.Norm.{normalize, normalized};
 
 // The register, and the count of shifts or, of NS and ND, the byte to store.

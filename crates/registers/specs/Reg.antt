@@ -1,7 +1,6 @@
 -- Registers. A register of n bits is a natural number below 2 ^ n; its left-most bit has the weight 2 ^ (n - 1).
 use Prim.Native.Nat.{ℕ, zero, suc, _+_, _-_, _*_, _/_, _%_, _^_}
 use mathlib.Core.Bool.{Bool, true, false}
-use lib.Dec.{leb, ltb, eqb}
 
 -- bit k of x, counted from the right, 0 the last
 abbrev pub bit : ℕ → ℕ → ℕ

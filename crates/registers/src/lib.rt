@@ -1,6 +1,6 @@
 // Registers of the RC 4000, held in u32 and u64.
 ghost use mathlib.Core.Path.{_≡_};
-ghost use Prim.Native.Nat.{_+_, _-_, _*_, _/_, _%_, _^_, _<_, max};
+ghost use Prim.Native.Nat.{_^_, _<_, max};
 ghost use Rattle.registers.specs.Reg.{signed, addAR, subAR};
 
 // R := signed C, from 24 to 25 bits.

@@ -1,5 +1,5 @@
 -- Shift operations (manual, 14.8 AS, AD, LS, LD), one place at a time, at n bits (24 or 48). SB has 24 bits and is negative from 2 ^ 23 up.
-use Prim.Native.Nat.{ℕ, zero, suc, _+_, _-_, _*_, _/_, _%_, _^_, max}
+use Prim.Native.Nat.{ℕ, _-_, _/_, _^_, max}
 use mathlib.Core.Path.{_≡_, refl}
 use mathlib.Core.Bool.{cond}
 use lib.Dec.{ltb}

@@ -1,6 +1,6 @@
 // The shift operations, one place at a time.
 ghost use mathlib.Core.Path.{_≡_};
-ghost use Prim.Native.Nat.{_+_, _-_, _*_, _/_, _%_, _^_, _<_, _≤_};
+ghost use Prim.Native.Nat.{_^_, _<_};
 ghost use Rattle.registers.specs.Reg.{asr, shl, iter};
 ghost use Rattle.shift.specs.Shift.{places, leftStep, arithmetic, logical, half};
 

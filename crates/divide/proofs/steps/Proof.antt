@@ -2,7 +2,7 @@ use native.Mathlib.Omega.{arith}
 use Rattle.registers.specs.Reg.{iter}
 use Rattle.registers.proofs.Loops.{iter-none, iter-next}
 use Prim.Native.Nat.{_≤_, _<_, _-_, _^_}
-use mathlib.Core.Path.{_≡_, _∙_}
+use mathlib.Core.Path.{_≡_}
 use Rattle.divide.specs.Wd.{wdStep, wdLoop}
 use borrow.Author.Needs.{needs}
 use Rattle.divide.proofs.steps.Statement.{statement}

@@ -1,4 +1,4 @@
-use Prim.Native.Nat.{_-_, _^_, _≤_, _<_}
+use Prim.Native.Nat.{_-_, _≤_}
 use borrow.Author.Needs.{needs}
 use Rattle.floating_cases.proofs.edge_pairs.Statement.{statement}
 use Rattle.floating_cases.proofs.edge_pairs.Tie as tie

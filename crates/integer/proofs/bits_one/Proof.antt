@@ -1,4 +1,4 @@
-use mathlib.Core.Path.{refl, _∙_}
+use mathlib.Core.Path.{refl}
 use Rattle.integer.proofs.Digits.{miss-is}
 use Rattle.integer.specs.Skip.{bitsOne}
 use Rattle.integer.proofs.bits_one.Statement.{statement}

@@ -1,4 +1,4 @@
-use mathlib.Core.Path.{refl, _∙_}
+use mathlib.Core.Path.{refl}
 use Rattle.integer.proofs.Digits.{select-is}
 use Rattle.integer.specs.Skip.{bitsZero}
 use Rattle.integer.proofs.bits_zero.Statement.{statement}

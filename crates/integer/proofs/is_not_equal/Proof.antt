@@ -1,4 +1,4 @@
-use mathlib.Core.Path.{refl, _∙_}
+use mathlib.Core.Path.{refl}
 use Rattle.integer.specs.Skip.{isNotEqual}
 use borrow.Author.Needs.{needs}
 use Rattle.integer.proofs.is_not_equal.Statement.{statement}

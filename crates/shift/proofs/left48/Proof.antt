@@ -3,7 +3,7 @@ use borrow.Author.Needs.{needs}
 use Rattle.registers.specs.Reg.{iter}
 use Rattle.shift.specs.Shift.{leftStep}
 use Rattle.registers.proofs.Loops.{iter-none, iter-next}
-use mathlib.Core.Path.{_≡_, _∙_}
+use mathlib.Core.Path.{_≡_}
 use Prim.Native.Nat.{_≤_, _<_, _-_, _^_}
 use Rattle.shift.proofs.left48.Statement.{statement}
 use Rattle.shift.proofs.left48.Tie as tie

@@ -1,7 +1,7 @@
 use native.Mathlib.Omega.{arith}
 use Rattle.registers.specs.Reg.{shl, iter}
 use Rattle.registers.proofs.Loops.{iter-none, iter-next}
-use mathlib.Core.Path.{_≡_, refl, _∙_}
+use mathlib.Core.Path.{_≡_, refl}
 use Prim.Native.Nat.{_≤_, _<_, _-_, _^_}
 use borrow.Author.Needs.{needs}
 use Rattle.shift.proofs.logical_left24.Statement.{statement}

@@ -2,7 +2,7 @@ use native.Mathlib.Omega.{arith}
 use Rattle.registers.specs.Reg.{iter}
 use Rattle.shift.specs.Shift.{half}
 use Rattle.registers.proofs.Loops.{iter-none, iter-next}
-use mathlib.Core.Path.{_≡_, refl, _∙_}
+use mathlib.Core.Path.{_≡_, refl}
 use Prim.Native.Nat.{_≤_, _<_, _-_, _^_}
 use borrow.Author.Needs.{needs}
 use Rattle.shift.proofs.logical_right48.Statement.{statement}

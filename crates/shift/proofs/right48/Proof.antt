@@ -2,7 +2,7 @@ use native.Mathlib.Omega.{arith}
 use borrow.Author.Needs.{needs}
 use Rattle.registers.specs.Reg.{asr, iter}
 use Rattle.registers.proofs.Loops.{iter-none, iter-next}
-use mathlib.Core.Path.{_≡_, refl, _∙_}
+use mathlib.Core.Path.{_≡_, refl}
 use Prim.Native.Nat.{_≤_, _<_, _-_, _^_}
 use Rattle.shift.proofs.right48.Statement.{statement}
 use Rattle.shift.proofs.right48.Tie as tie

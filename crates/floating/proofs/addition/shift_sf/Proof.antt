@@ -1,8 +1,8 @@
 use native.Mathlib.Omega.{arith}
 use Rattle.registers.proofs.Loops.{iter-none, iter-next}
 use Rattle.registers.specs.Reg.{asr, iter}
-use Prim.Native.Nat.{_+_, _-_, _*_, _/_, _%_, _^_, _≤_, _<_}
-use mathlib.Core.Path.{_≡_, refl, _∙_}
+use Prim.Native.Nat.{_-_, _^_, _≤_, _<_}
+use mathlib.Core.Path.{_≡_, refl}
 use borrow.Author.Needs.{needs}
 use Rattle.floating.proofs.addition.shift_sf.Statement.{statement}
 use Rattle.floating.proofs.addition.shift_sf.Tie as tie

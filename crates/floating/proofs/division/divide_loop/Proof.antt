@@ -4,7 +4,7 @@ use Rattle.floating.specs.Divide.{fdStep, fdStop, fdLoop}
 use borrow.Author.Tests.{eq-eqb, ne-eqb}
 use Rattle.registers.proofs.Loops.{until-stop, until-next, until-out}
 use Rattle.registers.specs.Reg.{until}
-use Prim.Native.Nat.{_+_, _-_, _*_, _/_, _%_, _^_, _≤_, _<_}
+use Prim.Native.Nat.{_-_, _^_, _≤_, _<_}
 use mathlib.Core.Path.{_≡_, sym, ap, _∙_}
 use borrow.Author.Needs.{needs}
 use Rattle.floating.proofs.division.divide_loop.Statement.{statement}

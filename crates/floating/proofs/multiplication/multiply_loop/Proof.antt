@@ -2,8 +2,8 @@ use native.Mathlib.Omega.{arith}
 use Rattle.floating.specs.Multiply.{fmStep, fmLoop}
 use Rattle.registers.proofs.Loops.{iter-none, iter-next}
 use Rattle.registers.specs.Reg.{iter}
-use Prim.Native.Nat.{_+_, _-_, _*_, _/_, _%_, _^_, _≤_, _<_}
-use mathlib.Core.Path.{_≡_, _∙_}
+use Prim.Native.Nat.{_-_, _^_, _≤_, _<_}
+use mathlib.Core.Path.{_≡_}
 use borrow.Author.Needs.{needs}
 use Rattle.floating.proofs.multiplication.multiply_loop.Statement.{statement}
 use Rattle.floating.proofs.multiplication.multiply_loop.Tie as tie
