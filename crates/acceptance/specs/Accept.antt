@@ -19,8 +19,9 @@ unfoldable pub cellFits : ℕ → Bool
 cellFits x = ltb x 134217728
 
 unfoldable pub cellsFit : List ℕ → Bool
+unfolding cellFits
 cellsFit [] = true
-cellsFit (x ∷ s) = let rest = cellsFit s in cond (ltb x 134217728) rest false
+cellsFit (x ∷ s) = let rest = cellsFit s in cond (cellFits x) rest false
 
 -- the reset state implies monitor mode and interrupts disabled
 unfoldable pub stateFits : Control → Bool

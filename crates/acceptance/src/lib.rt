@@ -1,7 +1,6 @@
 // The tests that stores, control records and runs are judged by, in the order of document 01.
 ghost use mathlib.Core.Path.{_≡_};
-ghost use lib.ListN.{length};
-ghost use Rattle.acceptance.specs.Accept.{sizeFits, cellFits, cellsFit, stateFits, controlFits, judgeStore, judgeMachine, judgeRun};
+ghost use Rattle.acceptance.specs.Accept.{sizeFits, cellsFit, stateFits, controlFits, judgeStore, judgeMachine, judgeRun};
 use machine::Control;
 use machine::Refusal;
 use machine::Verdict;
@@ -15,14 +14,8 @@ pub fn size_fits(n: usize) -> bool
     n <= 8388608
 }
 
-pub fn cell_fits(x: u32) -> bool
-    ensures { λ r. ⌜ r ≡ cellFits x ⌝ }
-{
-    x < 134217728
-}
-
 // The whole store is looked at, so that the compiler can test several cells at once.
-pub fn cells_fit(s: &[u32]) -> bool
+fn cells_fit(s: &[u32]) -> bool
     ensures { λ r. ⌜ r ≡ cellsFit (now (s .entry)) ⌝ }
 {
     let mut fit = true;

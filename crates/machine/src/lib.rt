@@ -1,7 +1,7 @@
 // The machine's values, and one total function for each primitive on cells and control record: a cell that is not there reads as 0, and a write
 // to it does nothing; a value is reduced to the width of what it goes into. So no public function asks anything of its caller.
 ghost use mathlib.Core.Path.{_≡_};
-ghost use Prim.Native.Nat.{ℕ, _+_, _*_, _/_, _%_, _<_};
+ghost use Prim.Native.Nat.{_+_, _*_, _/_, _%_, _<_};
 ghost use lib.ListN.{getD, set};
 ghost use Rattle.machine.specs.Store.{word, pair, key, putWord, putKey, byte, withByte, putByte, putLink, absent, forbids, forbidden, violation, firstWord, previous};
 ghost use Rattle.machine.specs.Fields.{inTask, withIC, withIR, withIM, withPending, withPR, withEX, withEnabled, raised, flagsCleared, overflowed, carrySet};
@@ -250,7 +250,7 @@ pub struct Cycled {
     pub end: CycleEnd,
 }
 
-pub fn cell_at(s: &[u32], i: u32) -> u32
+fn cell_at(s: &[u32], i: u32) -> u32
     ensures { λ r. ⌜ r ≡ getD (now (s .entry)) i 0 ⌝ }
 {
     let j = i as usize;
@@ -330,7 +330,7 @@ pub fn byte_at(s: &[u32], a: u32) -> u32
     if a % 2 == 0 { x / 4096 } else { x % 4096 }
 }
 
-pub fn with_byte(x: u32, a: u32, v: u32) -> u32
+fn with_byte(x: u32, a: u32, v: u32) -> u32
     ensures { λ r. ⌜ r ≡ withByte x a v ⌝ }
 {
     if a % 2 == 0 {
@@ -385,7 +385,7 @@ pub fn is_absent(s: &[u32], a: u32) -> bool
 }
 
 // PR(PK) = 1.
-pub fn is_key_forbidden(pr: u32, k: u32) -> bool
+fn is_key_forbidden(pr: u32, k: u32) -> bool
     ensures { λ r. ⌜ r ≡ forbids pr k ⌝ }
 {
     (pr << (k % 8)) / 128 % 2 == 1

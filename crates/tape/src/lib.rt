@@ -267,7 +267,7 @@ fn judge_records(tape: &[u8], cells: usize) -> Verdict
 }
 
 // The verdict on a tape for a store of so many cells.
-pub fn judge_tape(tape: &[u8], cells: usize) -> Verdict
+fn judge_tape(tape: &[u8], cells: usize) -> Verdict
     ensures { λ r. ⌜ r ≡ judgeTape cells (now (tape .entry)) ⌝ }
 {
     if tape.len() <= 65536 {
@@ -302,7 +302,7 @@ fn look_for(t: &[u8], kind: u32) -> Look
 }
 
 // The tape from its first record of that kind on, empty where there is none.
-pub fn hunt<'a>(tape: &'a [u8], kind: u32) -> &'a [u8]
+fn hunt<'a>(tape: &'a [u8], kind: u32) -> &'a [u8]
     ensures { λ r. ⌜ now r ≡ firstOf kind (recordsOf (now (tape .entry))) ⌝ }
 {
     let l = look_for(tape, kind);
