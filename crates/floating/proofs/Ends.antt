@@ -2,25 +2,20 @@
 -- As long as every digit equals the quotient's sign, AF is 2 (v - ξ) (dividend positive) or 2 (ξ - v) (negative), with v at most ξ, so at most 2 ^ 37.
 -- v starts at 4 at least, so a digit that differs from the sign is there after 36 passes and enters BF in pass 37 at the latest. 34 passes later it is BF(1). Assumes nothing.
 use mathlib.Core.Path.{_≡_, refl, ap, ap₂, _∙_, sym, subst}
-use mathlib.Core.Bool.{Bool, true, false, not}
+use mathlib.Core.Bool.{true, false, not}
 use mathlib.Core.Logic.{_⊎_, inl, inr, ⊎-elim, _≢_}
-use Prim.Native.Nat.{ℕ, zero, suc, _+_, _-_, _*_, _/_, _%_, _^_, _≤_, _<_, zero-le}
+use Prim.Native.Nat.{ℕ, _+_, _-_, _*_, _/_, _%_, _^_, _≤_, _<_, zero-le}
 use native.Mathlib.Omega.{arith}
 use native.Mathlib.Decide.{decLe, decLt}
-use native.Mathlib.Numerals.{add-one}
 use lib.Pow.{pow-mono}
 use lib.Dec.{eqb}
-use borrow.Author.Tests.{eq-eqb, ne-eqb, eqb-true, eqb-false, not-true, not-false}
-use Rattle.registers.specs.Reg.{until}
+use borrow.Author.Tests.{eq-eqb, ne-eqb, eqb-true, not-false}
 use Rattle.registers.proofs.Loops.{until-ends}
-use Rattle.normalize.proofs.Grow.{exponent-le}
+use Rattle.normalize.proofs.Grow.{exponent-le, double}
 use Rattle.floating.specs.declared.division.Quotient.{Quotient}
 use Rattle.floating.specs.Operands.{fraction, registerFraction, storageFraction, signedSF}
 use Rattle.floating.specs.Claims.{DivideEnds}
 use Rattle.floating.specs.Divide.{fdStart, fdAdd, fdStep, fdStop, fdLoop, nextDigit}
-
-double : (i : ℕ) → 2 ^ (i + 1) ≡ 2 * 2 ^ i
-double i = rw add-one (omega arith)
 
 -- ---- AF while every digit equals the sign, of a positive and of a negative dividend
 record Pos (ξ v i a : ℕ) : Type 0 where

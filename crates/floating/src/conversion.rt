@@ -1,6 +1,6 @@
 // Convert Floating to Integer.
 ghost use mathlib.Core.Path.{_≡_};
-ghost use Prim.Native.Nat.{_+_, _-_, _*_, _/_, _%_, _^_, _<_};
+ghost use Prim.Native.Nat.{_^_, _<_};
 ghost use Rattle.floating.specs.Operands.{fraction, registerFraction};
 ghost use Rattle.floating.specs.Convert.{cfRounded, cfEnd, cfByPlaces, cf};
 use super::Converted;
@@ -46,7 +46,7 @@ fn by_places(b: u32, word: u32, af: u64) -> Converted
 }
 
 // AF(-1:35) := signed Wfrac; AF(36:37) := 0.
-fn register_fraction(pre: u32, word: u32) -> u64
+pub fn register_fraction(pre: u32, word: u32) -> u64
     requires { ⌜ (pre < 2 ^ 24) × (word < 2 ^ 24) ⌝ }
     ensures { λ r. ⌜ (r ≡ registerFraction (fraction pre word)) × (r < 2 ^ 39) ⌝ }
 {

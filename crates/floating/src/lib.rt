@@ -1,6 +1,6 @@
 // Floating-point instructions: words of 24 bits in, words and flags out.
 ghost use mathlib.Core.Path.{_≡_};
-ghost use Prim.Native.Nat.{_+_, _-_, _*_, _/_, _%_, _^_, _<_};
+ghost use Prim.Native.Nat.{_^_, _<_};
 ghost use Rattle.floating.specs.Operands.{fetchFloating};
 ghost use Rattle.floating.specs.Add.{fa, fs};
 ghost use Rattle.floating.specs.Multiply.{fm};
@@ -33,10 +33,10 @@ fn fetch(pre: u32, word: u32, first: u32, second: u32) -> Operands
     requires { ⌜ (pre < 2 ^ 24) × (word < 2 ^ 24) × (first < 2 ^ 24) × (second < 2 ^ 24) ⌝ }
     ensures { λ r. ⌜ (r ≡ fetchFloating pre word first second) × (r .af < 2 ^ 39) × (r .sf < 2 ^ 38) × (r .wexp < 2 ^ 12) × (r .sbexp < 2 ^ 12) ⌝ }
 {
-    let f = pre as u64 * 4096 + word as u64 / 4096;
+    let f = conversion::register_fraction(pre, word);
     let s = first as u64 * 4096 + second as u64 / 4096;
     Operands {
-        af: (f + f / 34359738368 * 68719476736) * 4,
+        af: f,
         sf: s * 4,
         wexp: word % 4096,
         sbexp: second % 4096,

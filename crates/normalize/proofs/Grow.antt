@@ -1,6 +1,6 @@
 -- Why normalizing ends: each shift doubles the distance of the register from 0 and from 2 ^ n, and it starts at 1. Assumes nothing.
-use mathlib.Core.Path.{_≡_, refl, ap, _∙_, sym, subst}
-use Prim.Native.Nat.{ℕ, zero, suc, _+_, _-_, _*_, _/_, _%_, _^_, _≤_, _<_}
+use mathlib.Core.Path.{_≡_, ap, _∙_, sym, subst}
+use Prim.Native.Nat.{ℕ, suc, _+_, _-_, _*_, _/_, _%_, _^_, _≤_, _<_}
 use mathlib.Core.Logic.{_⊎_, inl, inr, ⊎-elim}
 use native.Mathlib.Omega.{arith}
 use native.Mathlib.Nat.{div-add-mod, mod-lt, mod-eq-of-lt, mod-eq-sub-mod, mul-le-mul-left}
@@ -18,7 +18,7 @@ pub record Apart (n i x : ℕ) : Type 0 where
   pub low : 2 ^ i ≤ x
   pub high : x + 2 ^ i ≤ 2 ^ n
 
-double : (i : ℕ) → 2 ^ (i + 1) ≡ 2 * 2 ^ i
+pub double : (i : ℕ) → 2 ^ (i + 1) ≡ 2 * 2 ^ i
 double i = rw add-one (omega arith)
 
 -- q is 2 ^ (n - 2). The two left-most bits are equal: the register is in the first or in the last quarter.
