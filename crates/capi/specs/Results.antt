@@ -1,7 +1,6 @@
 -- The numbers and structs that the C calls hand back (host/include/rc4000.h).
 -- Assumes nothing.
 use Prim.Native.Nat.{ℕ}
-use mathlib.Core.Bool.{Bool}
 use Rattle.machine.specs.declared.Kind.the-variants.{Exception, Line}
 use Rattle.machine.specs.declared.Outcome.the-variants.{Reset, Interrupted, Spent}
 use Rattle.machine.specs.declared.Answer.{Answer}

@@ -11,7 +11,6 @@ use machine::Answer;
 use machine::Control;
 use machine::Kind;
 use machine::Outcome;
-use machine::State;
 use machine::Verdict;
 
 #[repr(C)]

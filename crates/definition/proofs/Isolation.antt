@@ -1,7 +1,7 @@
 -- In task mode an instruction leaves the protected part as it was. It is proved of each micro-operation, and so of every list of them: no
 -- instruction has a proof of its own.
 -- Assumes nothing.
-use Prim.Native.Nat.{ℕ, _*_, _/_, _≤_, _<_}
+use Prim.Native.Nat.{ℕ, _*_, _≤_, _<_}
 use native.Mathlib.Omega.{arith}
 use mathlib.Core.Path.{_≡_, refl, sym, ap, _∙_}
 use mathlib.Core.Logic.{_≢_}
@@ -10,7 +10,7 @@ use Rattle.machine.specs.declared.Control.{Control}
 use Rattle.machine.specs.Store.{key, putWord, forbids, forbidden, violation}
 use Rattle.machine.specs.Fields.{inTask, withIC, withIR, withPending, withEX}
 use Rattle.machine.proofs.StoreLaws.{length-putWord, word-other, key-putWord}
-use Rattle.definition.specs.Machine.{Machine, machine, Effect}
+use Rattle.definition.specs.Machine.{Machine, machine}
 use Rattle.definition.specs.MicroOps.{Operation, unprivileged, privileged, autoload, unassigned, perform}
 use Rattle.definition.specs.Protected.{forbiddenIn, InTaskMode, EqualProtected}
 use Rattle.definition.proofs.MicroLaws.{reached, Closed, reach-cond, reach-steps}

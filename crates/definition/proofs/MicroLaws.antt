@@ -1,12 +1,11 @@
 -- What each micro-operation keeps, every instruction keeps: one induction over the list, for any property of machines.
 -- Assumes nothing.
-use Prim.Native.Nat.{ℕ, _/_, _%_, _<_, _+_}
+use Prim.Native.Nat.{ℕ, _/_, _<_}
 use native.Mathlib.Omega.{arith}
 use mathlib.Core.Path.{_≡_, refl}
 use mathlib.Core.Bool.{Bool, true, false, cond}
 use mathlib.Core.List.{List, [], _∷_}
 use lib.Dec.{eqb}
-use Rattle.machine.specs.declared.Control.{Control}
 use Rattle.machine.specs.Store.{putWord, putByte, putLink, absent, violation, previous}
 use Rattle.machine.specs.Fields.{withIC, withIR, withPending, withEX, raised, flagsCleared, overflowed, carrySet}
 use Rattle.definition.specs.Machine.{Machine, machine, Effect, ok, fault, bind}

@@ -1,12 +1,12 @@
 -- A machine that the tests accept stays one that they accept, whatever an instruction means.
 -- Assumes nothing.
-use Prim.Native.Nat.{ℕ, zero, suc, _+_, _*_, _/_, _%_, _≤_, _<_}
+use Prim.Native.Nat.{ℕ, zero, suc, _/_, _≤_, _<_}
 use native.Mathlib.Omega.{arith}
-use mathlib.Core.Path.{_≡_, refl, sym, ap, _∙_}
-use mathlib.Core.Bool.{Bool, true, false, not, cond, true≢false, false≢true}
+use mathlib.Core.Path.{_≡_, refl, ap, _∙_}
+use mathlib.Core.Bool.{Bool, true, false, not, cond, false≢true}
 use mathlib.Core.List.{List, [], _∷_}
-use lib.Dec.{ltb, leb}
-use lib.ListN.{length, getD}
+use lib.Dec.{ltb}
+use lib.ListN.{length}
 use borrow.Author.Tests.{lt-ltb, le-ltb, le-leb, ltb-true, ltb-false, leb-true}
 use Rattle.machine.specs.declared.Control.{Control}
 use Rattle.machine.specs.declared.Refusal.{Refusal}
@@ -17,7 +17,7 @@ use Rattle.machine.specs.Fields.{inTask, withIC, withIR, withIM, withPending, w
 use Rattle.machine.specs.Records.{resetRecord}
 use Rattle.machine.proofs.StoreLaws.{length-putWord, length-putKey, Cells, cells-putWord, cells-putKey}
 use Rattle.acceptance.specs.Accept.{sizeFits, cellsFit, stateFits, controlFits, judgeMachine}
-use Rattle.definition.specs.Machine.{Machine, machine, Effect, ok, fault, resetSystem}
+use Rattle.definition.specs.Machine.{Machine, machine, resetSystem}
 use Rattle.definition.specs.MicroOps.{MonitorOp, plain, setKey, setPR, setIM, setIR, setEnabled, Operation, unprivileged, privileged, autoload, unassigned, monitorStep, monitorSteps, perform}
 use Rattle.definition.proofs.MicroLaws.{reached, Closed, reach-cond, reach-bind, reach-step, reach-steps}
 

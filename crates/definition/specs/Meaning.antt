@@ -2,8 +2,8 @@
 -- `w` the number of W, `m` the machine as the operation begins; `n` is the machine as it is at a micro-operation.
 -- Assumes nothing.
 use Prim.Native.Nat.{ℕ, _+_, _*_, _/_, _%_}
-use mathlib.Core.Bool.{Bool, true, false, not}
-use mathlib.Core.List.{List, [], _∷_}
+use mathlib.Core.Bool.{true, false, not}
+use mathlib.Core.List.{[], _∷_}
 use Rattle.machine.specs.Store.{key, pair, forbidden, firstWord}
 use Rattle.integer.specs.Sums.{sum, difference, sumWithCarry, differenceWithCarry}
 use Rattle.integer.specs.Bitwise.{logicalAnd, logicalOr, logicalXor, cleared}
@@ -18,7 +18,7 @@ use Rattle.floating.specs.Multiply.{fm}
 use Rattle.floating.specs.Divide.{fd}
 use Rattle.floating.specs.Convert.{cf}
 use Rattle.definition.specs.Machine.{Machine}
-use Rattle.definition.specs.MicroOps.{MicroOp, testAddress, testJump, setW, setWpre, link, storeWord, storeByte, setIC, skipIf, clearFlags, overflow, setCarry, setEX, modify, plain, setKey, setPR, setIM, setIR, setEnabled, Operation, unprivileged, privileged, autoload, unassigned}
+use Rattle.definition.specs.MicroOps.{testAddress, testJump, setW, setWpre, link, storeWord, storeByte, setIC, skipIf, clearFlags, overflow, setEX, modify, plain, setKey, setPR, setIM, setIR, setEnabled, Operation, unprivileged, privileged, autoload, unassigned}
 use Rattle.definition.specs.Operands.{regW, regPre, wordAt, firstAt, byteAt, extended, always, even, afterW, integerOverflow, floatingOverflow, testInteger, setPair}
 
 -- the mnemonic codes of A.2, and `None` for a code that is not used

@@ -2,8 +2,8 @@
 -- Assumes nothing.
 use Prim.Native.Nat.{ℕ}
 use mathlib.Core.Path.{_≡_, refl}
-use mathlib.Core.Bool.{true, false}
-use mathlib.Core.List.{List, [], _∷_}
+use mathlib.Core.Bool.{false}
+use mathlib.Core.List.{[], _∷_}
 use Rattle.machine.specs.declared.Control.{Control}
 use Rattle.machine.specs.declared.Fault.the-variants.{Unassigned, Absent, Privileged, Store, Jump}
 use Rattle.definition.specs.Machine.{machine, ok, fault}

@@ -1,9 +1,9 @@
 -- Divide Integer Word (manual, 14.8 WD): ARBR has 49 bits, AR(-1:23) and BR(0:23), and starts from the signed pair.
-use Prim.Native.Nat.{ℕ, zero, suc, _+_, _-_, _*_, _/_, _%_, _^_}
+use Prim.Native.Nat.{ℕ, _+_, _-_, _*_, _/_, _%_, _^_}
 use mathlib.Core.Path.{_≡_, refl}
 use mathlib.Core.Bool.{cond}
 use lib.Dec.{eqb, ltb}
-use Rattle.registers.specs.Reg.{bit, sign, signed, asr, shl, addAR, subAR, iter}
+use Rattle.registers.specs.Reg.{sign, signed, asr, shl, addAR, subAR, iter}
 use Rattle.divide.specs.declared.Divided.{Divided}
 
 -- next digit := if AR(-1) = SB(0) then 1 else 0; ARBR := shiftleft ARBR; ARBR(47) := next digit;

@@ -2,7 +2,7 @@
 use mathlib.Core.Path.{_≡_, ap, ap₂, _∙_}
 use Prim.Native.Nat.{ℕ, _+_, _-_, _*_, _/_, _%_, _^_, _<_}
 use native.Mathlib.Omega.{arith}
-use Rattle.registers.specs.Reg.{signed, inverse}
+use Rattle.registers.specs.Reg.{signed, complement}
 use Rattle.integer.specs.Sums.{adder, sum, difference, sumWithCarry, differenceWithCarry}
 use Rattle.integer.specs.Claims.{DoubleSum, DoubleDifference}
 
@@ -10,8 +10,8 @@ use Rattle.integer.specs.Claims.{DoubleSum, DoubleDifference}
 last-signed : (a : ℕ) → a < 2 ^ 24 → signed 24 25 a % 2 ^ 24 ≡ a
 last-signed a h = omega arith
 
-last-inverse : (a : ℕ) → a < 2 ^ 24 → inverse 25 (signed 24 25 a) % 2 ^ 24 ≡ 2 ^ 24 - 1 - a
-last-inverse a h = omega arith
+last-complement : (a : ℕ) → a < 2 ^ 24 → complement 25 (signed 24 25 a) % 2 ^ 24 ≡ 2 ^ 24 - 1 - a
+last-complement a h = omega arith
 
 -- the word of a pass is that of the operands' last 24 bits
 pass : (x y c a b : ℕ) → x % 2 ^ 24 ≡ a → y % 2 ^ 24 ≡ b → (x + y + c) % 2 ^ 24 ≡ (a + b + c) % 2 ^ 24
@@ -30,8 +30,8 @@ passes x y u v c p a q b ha hb ep eq ea eb =
     (pass u v c a b ea eb)
     ∙ two p a q b c ha hb
 
-complement : (q b : ℕ) → q < 2 ^ 24 → b < 2 ^ 24 → (2 ^ 24 - 1 - q) * 2 ^ 24 + (2 ^ 24 - 1 - b) + 1 ≡ 2 ^ 48 - (q * 2 ^ 24 + b)
-complement q b hq hb = omega arith
+double-complement : (q b : ℕ) → q < 2 ^ 24 → b < 2 ^ 24 → (2 ^ 24 - 1 - q) * 2 ^ 24 + (2 ^ 24 - 1 - b) + 1 ≡ 2 ^ 48 - (q * 2 ^ 24 + b)
+double-complement q b hq hb = omega arith
 
 pub double-sum : DoubleSum
 unfolding sum sumWithCarry
@@ -43,6 +43,6 @@ double-sum p a q b hp ha hq hb =
 pub double-difference : DoubleDifference
 unfolding difference differenceWithCarry
 double-difference p a q b hp ha hq hb =
-    passes (signed 24 25 p) (inverse 25 (signed 24 25 q)) (signed 24 25 a) (inverse 25 (signed 24 25 b)) 1 p a (2 ^ 24 - 1 - q) (2 ^ 24 - 1 - b) ha (omega arith)
-    (last-signed p hp) (last-inverse q hq) (last-signed a ha) (last-inverse b hb)
-    ∙ ap (λ (n : ℕ). (p * 2 ^ 24 + a + n) % 2 ^ 48) (complement q b hq hb)
+    passes (signed 24 25 p) (complement 25 (signed 24 25 q)) (signed 24 25 a) (complement 25 (signed 24 25 b)) 1 p a (2 ^ 24 - 1 - q) (2 ^ 24 - 1 - b) ha (omega arith)
+    (last-signed p hp) (last-complement q hq) (last-signed a ha) (last-complement b hb)
+    ∙ ap (λ (n : ℕ). (p * 2 ^ 24 + a + n) % 2 ^ 48) (double-complement q b hq hb)

@@ -3,12 +3,12 @@ use Prim.Native.Nat.{ℕ, _+_, _%_, _^_}
 use mathlib.Core.Path.{_≡_, refl}
 use mathlib.Core.Bool.{Bool, true, false, not, cond, _&&_}
 use lib.Dec.{eqb, ltb, leb}
-use Rattle.registers.specs.Reg.{signed, inverse}
+use Rattle.registers.specs.Reg.{signed, complement}
 use Rattle.integer.specs.Bitwise.{each}
 
 -- AR := signed W - signed SB, all 25 bits
 abbrev pub comparison : ℕ → ℕ → ℕ
-comparison w sb = (signed 24 25 w + inverse 25 (signed 24 25 sb) + 1) % 2 ^ 25
+comparison w sb = (signed 24 25 w + complement 25 (signed 24 25 sb) + 1) % 2 ^ 25
 
 -- AR > 0; AR is a signed number of 25 bits, negative from 2 ^ 24 up
 unfoldable pub isHigh : ℕ → ℕ → Bool
@@ -28,7 +28,7 @@ isNotEqual w sb = not (eqb (comparison w sb) 0)
 
 -- AR(bit) := if SB(bit) = 1 then not W(bit) else 0
 abbrev pub zeroSelected : ℕ → ℕ → ℕ
-zeroSelected x y = cond (eqb y 1) (inverse 1 x) 0
+zeroSelected x y = cond (eqb y 1) (complement 1 x) 0
 
 -- AR(bit) := if SB(bit) = 1 then W(bit) else 0
 abbrev pub oneSelected : ℕ → ℕ → ℕ

@@ -1,7 +1,7 @@
 -- Integer sums (manual, 14.3; 14.7 Test Integer; 14.8 WA, WS, AC, AA, SS): AR has 25 bits, AR(-1) the left-most.
 use Prim.Native.Nat.{ℕ, _+_, _/_, _%_, _^_}
 use mathlib.Core.Path.{_≡_, refl}
-use Rattle.registers.specs.Reg.{bit, signed, inverse, unlike}
+use Rattle.registers.specs.Reg.{bit, signed, complement, bitsDiffer}
 use Rattle.integer.specs.declared.Sum.{Sum}
 
 -- One pass of the adder, with a carry in: AR := A + B + c; W := AR(0:23); Test Integer: if AR(-1) <> AR(0) then overflow; EX(23) := carry.
@@ -10,7 +10,7 @@ abbrev pub adder : ℕ → ℕ → ℕ → Sum
 adder a b c =
     record {
       word = (a + b + c) % 2 ^ 24;
-      over = unlike (bit 24 (a + b + c)) (bit 23 (a + b + c));
+      over = bitsDiffer (bit 24 (a + b + c)) (bit 23 (a + b + c));
       carry = (a % 2 ^ 24 + b % 2 ^ 24 + c) / 2 ^ 24;
     }
 
@@ -20,7 +20,7 @@ sum a b = adder (signed 24 25 a) (signed 24 25 b) 0
 
 -- AR := signed W - signed word(SB): A - B is A + not B + 1 in one pass
 unfoldable pub difference : ℕ → ℕ → Sum
-difference a b = adder (signed 24 25 a) (inverse 25 (signed 24 25 b)) 1
+difference a b = adder (signed 24 25 a) (complement 25 (signed 24 25 b)) 1
 
 -- if carry then AR := signed Wpre + signed word(SB) + 1 else AR := signed Wpre + signed word(SB)
 unfoldable pub sumWithCarry : ℕ → ℕ → ℕ → Sum
@@ -28,7 +28,7 @@ sumWithCarry a b c = adder (signed 24 25 a) (signed 24 25 b) c
 
 -- if carry then AR := signed Wpre - signed word(SB) else AR := signed Wpre - signed word(SB) - 1: A - B - 1 is A + not B
 unfoldable pub differenceWithCarry : ℕ → ℕ → ℕ → Sum
-differenceWithCarry a b c = adder (signed 24 25 a) (inverse 25 (signed 24 25 b)) c
+differenceWithCarry a b c = adder (signed 24 25 a) (complement 25 (signed 24 25 b)) c
 
 -- Address sums drop every carry out of 24 bits.
 unfoldable pub sum24 : ℕ → ℕ → ℕ

@@ -7,7 +7,7 @@ ghost use Rattle.machine.specs.Store.{word, pair, key, putWord, putKey, 
 ghost use Rattle.machine.specs.Fields.{inTask, withIC, withIR, withIM, withPending, withPR, withEX, withEnabled, raised, flagsCleared, overflowed, carrySet};
 ghost use Rattle.machine.specs.Records.{freshRecord, resetRecord};
 ghost use Rattle.machine.specs.Answers.{refusalNumber, kindNumber, performed};
-ghost use Rattle.machine.specs.Format.{takenApart};
+ghost use Rattle.machine.specs.Format.{instructionFields};
 
 // The control record (document 01, "The machine").
 #[repr(C)]
@@ -78,7 +78,7 @@ pub struct Instruction {
 
 impl Instruction {
     pub fn of_word(v: u32) -> Instruction
-        ensures { λ r. ⌜ r ≡ takenApart v ⌝ }
+        ensures { λ r. ⌜ r ≡ instructionFields v ⌝ }
     {
         Instruction {
             code: v / 262144,

@@ -1,7 +1,7 @@
 -- Normalizing (manual, 14.8 NS, ND; 14.7): shift left until the two left-most bits of a register of n bits differ.
-use Prim.Native.Nat.{ℕ, zero, suc, _+_, _-_, _*_, _/_, _%_, _^_}
+use Prim.Native.Nat.{ℕ, _+_, _-_, _%_, _^_}
 use mathlib.Core.Path.{_≡_, refl}
-use mathlib.Core.Bool.{Bool, true, false, not, cond}
+use mathlib.Core.Bool.{Bool, not, cond}
 use lib.Dec.{eqb}
 use Rattle.registers.specs.Reg.{bit, sign, shl, until}
 use Rattle.normalize.specs.declared.Normal.{Normal}

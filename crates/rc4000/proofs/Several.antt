@@ -1,19 +1,17 @@
 -- The proofs of specs/Several.antt. Assumes nothing.
-use Prim.Native.Nat.{ℕ, _+_, _≤_}
-use native.Mathlib.Omega.{arith}
+use Prim.Native.Nat.{ℕ}
 use mathlib.Core.Path.{_≡_, refl, sym, ap, _∙_, subst}
 use mathlib.Core.List.{List, [], _∷_}
-use Rattle.machine.specs.declared.Kind.{Kind}
 use Rattle.machine.specs.declared.Outcome.the-variants.{Spent, Interrupted, Reset}
 use Rattle.machine.specs.declared.Answer.{Answer}
 use Rattle.machine.specs.declared.Answer.the-variants.{Refused, Ended}
 use Rattle.definition.specs.Machine.{Machine}
 use Rattle.running.specs.Runs.{Ran, added, thenBy, thenRun}
-use Rattle.running.specs.Calls.{total, calls}
+use Rattle.running.specs.Calls.{calls}
 use Rattle.running.specs.Run.{runMachine, runList}
 use Rattle.running.proofs.Promises.{two-runs, budget-list}
 use Rattle.running.specs.Promises.{EqualEntries}
-use Rattle.rc4000.specs.Several.{Called, TwoCalls, CallsMade, summed, OneCall}
+use Rattle.rc4000.specs.Several.{TwoCalls, CallsMade, summed, OneCall}
 
 pub two-calls : TwoCalls
 two-calls m n x y l₁ b₁ l₂ b₂ k₁ k₂ e f t u h g p q =

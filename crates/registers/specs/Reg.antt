@@ -15,12 +15,12 @@ abbrev pub signed : ℕ → ℕ → ℕ → ℕ
 signed n m x = x + sign n x * (2 ^ m - 2 ^ n)
 
 -- R := not R
-abbrev pub inverse : ℕ → ℕ → ℕ
-inverse n x = 2 ^ n - 1 - x
+abbrev pub complement : ℕ → ℕ → ℕ
+complement n x = 2 ^ n - 1 - x
 
 -- 1 where two bits differ
-abbrev pub unlike : ℕ → ℕ → ℕ
-unlike a b = (a + b) % 2
+abbrev pub bitsDiffer : ℕ → ℕ → ℕ
+bitsDiffer a b = (a + b) % 2
 
 -- R(1:n-1) := R(0:n-2), R(0) stays: a shift to the right that keeps the sign
 abbrev pub asr : ℕ → ℕ → ℕ

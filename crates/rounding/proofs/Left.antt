@@ -1,15 +1,13 @@
 -- Left shifts of AF, 39 bits, are those of AF(0:37) at the left of 48 bits; AF(-1) stays equal to AF(0). Assumes nothing.
-use mathlib.Core.Path.{_≡_, refl, ap, ap₂, _∙_, sym}
-use mathlib.Core.Bool.{Bool, true, false, not}
-use Prim.Native.Nat.{ℕ, zero, suc, _+_, _-_, _*_, _/_, _%_, _^_, _≤_, _<_}
+use mathlib.Core.Path.{_≡_, ap, ap₂, _∙_, sym}
+use mathlib.Core.Bool.{false, not}
+use Prim.Native.Nat.{ℕ, _+_, _*_, _/_, _%_, _^_, _<_}
 use native.Mathlib.Omega.{arith}
 use lib.Dec.{eqb}
 use borrow.Author.Tests.{eqb-true, not-false}
-use Rattle.registers.specs.Reg.{until}
 use Rattle.registers.proofs.Loops.{until-map, until-keep}
 use Rattle.normalize.specs.declared.Normal.{Normal}
-use Rattle.normalize.specs.Norm.{normal, normalAt, normStep, normalize}
-use Rattle.normalize.proofs.Enough.{normalized}
+use Rattle.normalize.specs.Norm.{normalAt, normStep, normalize}
 use Rattle.rounding.specs.Round.{afNormal, afStep, afLeft}
 
 -- AF(0:37) at the left of 48 bits

@@ -1,29 +1,28 @@
 -- `normalizeRound` in the code's two ways: one pass, or one more after rounding up. And two passes are enough (specs/Claims.antt). Assumes nothing.
-use mathlib.Core.Path.{_≡_, refl, ap, ap₂, _∙_, sym, subst}
+use mathlib.Core.Path.{_≡_, refl, ap, _∙_, sym, subst}
 use mathlib.Core.Bool.{Bool, true, false, not}
 use mathlib.Core.Logic.{_⊎_, inl, inr, ⊎-elim, _≢_}
-use Prim.Native.Nat.{ℕ, zero, suc, _+_, _-_, _*_, _/_, _%_, _^_, _≤_, _<_}
+use Prim.Native.Nat.{ℕ, suc, _+_, _*_, _/_, _%_, _^_, _≤_, _<_}
 use native.Mathlib.Omega.{arith}
-use native.Mathlib.Decide.{decLe, decLt, ℕ-discrete}
-use lib.Dec.{eqb}
+use native.Mathlib.Decide.{decLt, ℕ-discrete}
 use borrow.Author.Tests.{eq-eqb, ne-eqb, eqb-true, eqb-false, not-true}
 use Rattle.registers.specs.Reg.{until}
 use Rattle.registers.proofs.Loops.{until-stop, until-go}
 use Rattle.normalize.specs.declared.Normal.{Normal}
-use Rattle.normalize.specs.Norm.{normalize, normalAt}
+use Rattle.normalize.specs.Norm.{normalAt}
 use Rattle.normalize.proofs.Enough.{normalized}
 use Rattle.rounding.specs.declared.Unpacked.{Unpacked}
-use Rattle.rounding.specs.Round.{afNormal, afStep, afLeft, leftShifts, normalizeOnce, roundUp, exact, roundAgain, normalizeRound}
+use Rattle.rounding.specs.Round.{afNormal, afStep, afLeft, leftShifts, normalizeOnce, roundUp, noRounding, roundAgain, normalizeRound}
 use Rattle.rounding.specs.Claims.{LeftShiftsEnd, TwoPasses, AnyBound}
-use Rattle.rounding.proofs.Left.{Extended, left-extended, left-is, wide, same-test}
+use Rattle.rounding.proofs.Left.{Extended, left-extended, left-is, same-test}
 
 pub round-stop : (x y : Unpacked) → y ≡ normalizeOnce x → y .af / 2 % 2 ≡ 0 → y ≡ normalizeRound x
 unfolding normalizeRound
-round-stop x y e h = e ∙ sym (until-stop exact roundAgain 1 (normalizeOnce x) (ap exact (sym e) ∙ eq-eqb _ _ h))
+round-stop x y e h = e ∙ sym (until-stop noRounding roundAgain 1 (normalizeOnce x) (ap noRounding (sym e) ∙ eq-eqb _ _ h))
 
 pub round-go : (x y z : Unpacked) → y ≡ normalizeOnce x → (y .af / 2 % 2 ≡ 0 → ⊥) → z ≡ normalizeOnce (roundUp y) → z ≡ normalizeRound x
 unfolding normalizeRound until
-round-go x y z e h g = g ∙ ap roundAgain e ∙ sym (until-go exact roundAgain 0 (normalizeOnce x) (ap exact (sym e) ∙ ne-eqb _ _ h))
+round-go x y z e h g = g ∙ ap roundAgain e ∙ sym (until-go noRounding roundAgain 0 (normalizeOnce x) (ap noRounding (sym e) ∙ ne-eqb _ _ h))
 
 -- ---- two passes are enough
 -- what `normalizeOnce` leaves if not zero: AF(-1) = AF(0), AF(0) <> AF(1)
@@ -92,37 +91,37 @@ left-stays a f = ap (λ (n : Normal). n .word) (until-stop afNormal afStep 48 (r
 not-zero : (a : ℕ) → Fraction a → a ≡ 0 → ⊥
 not-zero a f e = f .differ (rw e refl)
 
-settled : (r c : ℕ) → Fraction r → r % 4 ≡ 0 → exact (normalizeOnce (record { af = r; sc = c })) ≡ true
+settled : (r c : ℕ) → Fraction r → r % 4 ≡ 0 → noRounding (normalizeOnce (record { af = r; sc = c })) ≡ true
 settled r c f h =
     let e : normalizeOnce (record { af = r; sc = c }) .af ≡ r = once-left (record { af = r; sc = c }) (f .extended .equal) (not-zero r f) ∙ left-stays r f in
     let z : r / 2 % 2 ≡ 0 = omega arith in
     eq-eqb _ _ (ap (λ (n : ℕ). n / 2 % 2) e ∙ z)
 
 -- rounding reaches the next power of two: AF(36) of what follows is 0, by computation
-top-positive : (c : ℕ) → exact (normalizeOnce (record { af = 2 ^ 37; sc = c })) ≡ true
+top-positive : (c : ℕ) → noRounding (normalizeOnce (record { af = 2 ^ 37; sc = c })) ≡ true
 unfolding normalizeOnce
 top-positive c = refl
 
-top-negative : (c : ℕ) → exact (normalizeOnce (record { af = 3 * 2 ^ 37 + 2 ^ 36; sc = c })) ≡ true
+top-negative : (c : ℕ) → noRounding (normalizeOnce (record { af = 3 * 2 ^ 37 + 2 ^ 36; sc = c })) ≡ true
 unfolding normalizeOnce leftShifts afLeft until
 top-negative c = refl
 
-round-positive : (a c : ℕ) → (2 ^ 36 ≤ a) × (a < 2 ^ 37) → exact (normalizeOnce (record { af = (a + 4) % 2 ^ 39 / 4 * 4; sc = c })) ≡ true
+round-positive : (a c : ℕ) → (2 ^ 36 ≤ a) × (a < 2 ^ 37) → noRounding (normalizeOnce (record { af = (a + 4) % 2 ^ 39 / 4 * 4; sc = c })) ≡ true
 round-positive a c h =
     let r : ℕ = (a + 4) % 2 ^ 39 / 4 * 4 in
     let m : (a + 4) % 2 ^ 39 ≡ a + 4 = omega arith in
     elim (decLt r (2 ^ 37)) [
       | yes l ↦ settled r c (positive-fraction r (omega arith, l)) (omega arith)
-      | no n ↦ (let e : r ≡ 2 ^ 37 = omega arith in subst (λ (n : ℕ). exact (normalizeOnce (record { af = n; sc = c })) ≡ true) (sym e) (top-positive c))
+      | no n ↦ (let e : r ≡ 2 ^ 37 = omega arith in subst (λ (n : ℕ). noRounding (normalizeOnce (record { af = n; sc = c })) ≡ true) (sym e) (top-positive c))
     ]
 
-round-negative : (a c : ℕ) → (3 * 2 ^ 37 ≤ a) × (a < 3 * 2 ^ 37 + 2 ^ 36) → exact (normalizeOnce (record { af = (a + 4) % 2 ^ 39 / 4 * 4; sc = c })) ≡ true
+round-negative : (a c : ℕ) → (3 * 2 ^ 37 ≤ a) × (a < 3 * 2 ^ 37 + 2 ^ 36) → noRounding (normalizeOnce (record { af = (a + 4) % 2 ^ 39 / 4 * 4; sc = c })) ≡ true
 round-negative a c h =
     let r : ℕ = (a + 4) % 2 ^ 39 / 4 * 4 in
     let m : (a + 4) % 2 ^ 39 ≡ a + 4 = omega arith in
     elim (decLt r (3 * 2 ^ 37 + 2 ^ 36)) [
       | yes l ↦ settled r c (negative-fraction r (omega arith, l)) (omega arith)
-      | no n ↦ (let e : r ≡ 3 * 2 ^ 37 + 2 ^ 36 = omega arith in subst (λ (n : ℕ). exact (normalizeOnce (record { af = n; sc = c })) ≡ true) (sym e) (top-negative c))
+      | no n ↦ (let e : r ≡ 3 * 2 ^ 37 + 2 ^ 36 = omega arith in subst (λ (n : ℕ). noRounding (normalizeOnce (record { af = n; sc = c })) ≡ true) (sym e) (top-negative c))
     ]
 
 -- what `normalizeOnce` leaves is zero or a fraction
@@ -156,29 +155,29 @@ once-is x b =
       ]
     ]
 
-again-exact : (y : Unpacked) → Fraction (y .af) → exact (roundAgain y) ≡ true
+again-exact : (y : Unpacked) → Fraction (y .af) → noRounding (roundAgain y) ≡ true
 unfolding Positive Negative
 again-exact y f = ⊎-elim (round-positive (y .af) (y .sc)) (round-negative (y .af) (y .sc)) (normal-fraction (y .af) f)
 
-once-exact : (x : Unpacked) → x .af < 2 ^ 39 → exact (normalizeOnce x) ≡ false → exact (roundAgain (normalizeOnce x)) ≡ true
+once-exact : (x : Unpacked) → x .af < 2 ^ 39 → noRounding (normalizeOnce x) ≡ false → noRounding (roundAgain (normalizeOnce x)) ≡ true
 once-exact x b e =
     ⊎-elim (λ z. absurd (eqb-false _ _ e (ap (λ (n : ℕ). n / 2 % 2) z))) (again-exact (normalizeOnce x)) (once-is x b)
 
 pub any-bound : AnyBound
 unfolding normalizeRound
-any-bound x n b = go (exact (normalizeOnce x)) refl
+any-bound x n b = go (noRounding (normalizeOnce x)) refl
   where
-    go : (t : Bool) → exact (normalizeOnce x) ≡ t → until exact roundAgain (suc n) (normalizeOnce x) ≡ until exact roundAgain 1 (normalizeOnce x)
-    go true e = until-stop exact roundAgain (suc n) (normalizeOnce x) e ∙ sym (until-stop exact roundAgain 1 (normalizeOnce x) e)
+    go : (t : Bool) → noRounding (normalizeOnce x) ≡ t → until noRounding roundAgain (suc n) (normalizeOnce x) ≡ until noRounding roundAgain 1 (normalizeOnce x)
+    go true e = until-stop noRounding roundAgain (suc n) (normalizeOnce x) e ∙ sym (until-stop noRounding roundAgain 1 (normalizeOnce x) e)
     go false e =
-        until-go exact roundAgain n (normalizeOnce x) e
-        ∙ until-stop exact roundAgain n (roundAgain (normalizeOnce x)) (once-exact x b e)
+        until-go noRounding roundAgain n (normalizeOnce x) e
+        ∙ until-stop noRounding roundAgain n (roundAgain (normalizeOnce x)) (once-exact x b e)
         ∙ round-go x (normalizeOnce x) (roundAgain (normalizeOnce x)) refl (eqb-false _ _ e) refl
 
 pub two-passes : TwoPasses
-two-passes x b = go (exact (normalizeOnce x)) refl
+two-passes x b = go (noRounding (normalizeOnce x)) refl
   where
-    go : (t : Bool) → exact (normalizeOnce x) ≡ t → exact (normalizeRound x) ≡ true
-    go true e = ap exact (sym (round-stop x (normalizeOnce x) refl (eqb-true _ _ e))) ∙ e
+    go : (t : Bool) → noRounding (normalizeOnce x) ≡ t → noRounding (normalizeRound x) ≡ true
+    go true e = ap noRounding (sym (round-stop x (normalizeOnce x) refl (eqb-true _ _ e))) ∙ e
     go false e =
-        ap exact (sym (round-go x (normalizeOnce x) (roundAgain (normalizeOnce x)) refl (eqb-false _ _ e) refl)) ∙ once-exact x b e
+        ap noRounding (sym (round-go x (normalizeOnce x) (roundAgain (normalizeOnce x)) refl (eqb-false _ _ e) refl)) ∙ once-exact x b e

@@ -4,7 +4,7 @@ use mathlib.Core.Path.{_≡_}
 use mathlib.Core.Bool.{true}
 use Rattle.registers.specs.Reg.{bit, sign, until}
 use Rattle.rounding.specs.declared.Unpacked.{Unpacked}
-use Rattle.rounding.specs.Round.{afNormal, afLeft, exact, roundAgain, normalizeOnce, normalizeRound}
+use Rattle.rounding.specs.Round.{afNormal, afLeft, noRounding, roundAgain, normalizeOnce, normalizeRound}
 
 -- the left shifts end: AF(0) <> AF(1) after them, for every AF but zero with AF(-1) = AF(0)
 abbrev pub LeftShiftsEnd : Type 0
@@ -12,8 +12,8 @@ LeftShiftsEnd = (a : ℕ) → a < 2 ^ 39 → sign 39 a ≡ bit 37 a → (a ≡ 0
 
 -- two passes from Again are enough for every AF and SC: what they give has AF(36) = 0
 abbrev pub TwoPasses : Type 0
-TwoPasses = (x : Unpacked) → x .af < 2 ^ 39 → exact (normalizeRound x) ≡ true
+TwoPasses = (x : Unpacked) → x .af < 2 ^ 39 → noRounding (normalizeRound x) ≡ true
 
 -- so `goto Again` without a bound gives the same
 abbrev pub AnyBound : Type 0
-AnyBound = (x : Unpacked) (n : ℕ) → x .af < 2 ^ 39 → until exact roundAgain (suc n) (normalizeOnce x) ≡ normalizeRound x
+AnyBound = (x : Unpacked) (n : ℕ) → x .af < 2 ^ 39 → until noRounding roundAgain (suc n) (normalizeOnce x) ≡ normalizeRound x

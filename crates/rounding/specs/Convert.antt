@@ -1,5 +1,5 @@
 -- Convert Integer to Floating (manual, 14.8). SB is the effective address; `over` is EX(22) and IR(2).
-use Prim.Native.Nat.{ℕ, zero, suc, _+_, _-_, _*_, _/_, _%_, _^_, max}
+use Prim.Native.Nat.{ℕ, _+_, _*_, _%_, _^_, max}
 use mathlib.Core.Path.{_≡_, refl}
 use mathlib.Core.Bool.{cond}
 use lib.Dec.{eqb}

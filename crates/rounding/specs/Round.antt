@@ -1,9 +1,9 @@
 -- Normalize and Round Floating (manual, 14.7). AF(-1:37) has 39 bits, SC(11:23) has 13; SC wraps.
-use Prim.Native.Nat.{ℕ, zero, suc, _+_, _-_, _*_, _/_, _%_, _^_}
+use Prim.Native.Nat.{ℕ, _+_, _-_, _*_, _/_, _%_, _^_}
 use mathlib.Core.Path.{_≡_, refl}
-use mathlib.Core.Bool.{Bool, true, false, not, cond}
+use mathlib.Core.Bool.{Bool, not, cond}
 use lib.Dec.{eqb}
-use Rattle.registers.specs.Reg.{bit, sign, signed, unlike, asr, shl, until}
+use Rattle.registers.specs.Reg.{bit, sign, bitsDiffer, asr, shl, until}
 use Rattle.normalize.specs.declared.Normal.{Normal}
 use Rattle.rounding.specs.declared.Unpacked.{Unpacked}
 
@@ -36,8 +36,8 @@ unfoldable pub normalizeOnce : Unpacked → Unpacked
 normalizeOnce x = cond (not (eqb (sign 39 (x .af)) (bit 37 (x .af)))) (rightShift x) (leftShifts x)
 
 -- AF(36) = 0: no rounding
-abbrev pub exact : Unpacked → Bool
-exact x = eqb (bit 1 (x .af)) 0
+abbrev pub noRounding : Unpacked → Bool
+noRounding x = eqb (bit 1 (x .af)) 0
 
 -- AF := AF + 4; AF(36:37) := 0
 abbrev pub roundUp : Unpacked → Unpacked
@@ -49,11 +49,11 @@ roundAgain x = normalizeOnce (roundUp x)
 
 -- if AF(36) = 1 then round and goto Again: at most once (specs/Claims.antt)
 unfoldable pub normalizeRound : Unpacked → Unpacked
-normalizeRound x = until exact roundAgain 1 (normalizeOnce x)
+normalizeRound x = until noRounding roundAgain 1 (normalizeOnce x)
 
 -- SC(11) <> SC(12): EX(22) := IR(2) := 1
 abbrev pub scOver : ℕ → ℕ
-scOver sc = unlike (sign 13 sc) (bit 11 sc)
+scOver sc = bitsDiffer (sign 13 sc) (bit 11 sc)
 
 -- rounding up to the next power of two: 1 - 2 ** -36 becomes 1, which is 0.5 with the exponent raised
 round-to-1 : normalizeRound (record { af = 2 ^ 37 - 2; sc = 5 }) ≡ record { af = 2 ^ 36; sc = 6 }

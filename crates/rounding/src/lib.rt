@@ -1,6 +1,6 @@
 // AF, 39 bits, in a u64, and SC, 13 bits, in a u32: normalizing, rounding, storing in Wpre and W.
 ghost use mathlib.Core.Path.{_≡_};
-ghost use Prim.Native.Nat.{_+_, _-_, _*_, _/_, _%_, _^_, _<_};
+ghost use Prim.Native.Nat.{_/_, _%_, _^_, _<_};
 ghost use Rattle.rounding.specs.Round.{leftShifts, normalizeOnce, normalizeRound};
 ghost use Rattle.rounding.specs.Store.{precise, stored, preciseStore, roundStore};
 ghost use Rattle.rounding.specs.Convert.{ci};

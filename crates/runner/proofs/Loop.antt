@@ -1,5 +1,5 @@
 -- The loop of a run: k is left of the budget b. Assumes nothing.
-use Prim.Native.Nat.{ℕ, zero, suc, _+_, _-_, _≤_, _<_}
+use Prim.Native.Nat.{ℕ, suc, _+_, _-_, _≤_, _<_}
 use native.Mathlib.Nat.{sub-zero, zero-add, add-zero}
 use native.Mathlib.Omega.{arith}
 use mathlib.Core.Path.{_≡_, refl, sym, subst}
@@ -10,7 +10,7 @@ use Rattle.machine.specs.declared.CycleEnd.{CycleEnd}
 use Rattle.machine.specs.declared.CycleEnd.the-variants.{Executed, Entered}
 use Rattle.machine.specs.declared.Outcome.the-variants.{Reset, Spent}
 use Rattle.definition.specs.Machine.{Machine, machine}
-use Rattle.running.specs.Runs.{CycleResult, Ran, ended, counted, after, run}
+use Rattle.running.specs.Runs.{Ran, ended, after, run}
 use Rattle.running.specs.Cycle.{cycle}
 use Rattle.running.specs.Run.{inReset, running}
 use Rattle.running.specs.Bridge.{endOf, ranOf}

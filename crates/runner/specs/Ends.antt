@@ -1,7 +1,7 @@
 -- For the functions inside the crate. Whether a run goes on after a cycle, and what it hands back where it does not (document 01, "A run"): an entry ends it interrupted, the reset state reset.
 -- Assumes nothing.
 use Prim.Native.Nat.{ℕ, _+_}
-use mathlib.Core.Bool.{Bool, true, false, not}
+use mathlib.Core.Bool.{Bool, false, not}
 use Rattle.machine.specs.declared.Control.{Control}
 use Rattle.machine.specs.declared.CycleEnd.{CycleEnd}
 use Rattle.machine.specs.declared.CycleEnd.the-variants.{Executed, Entered}

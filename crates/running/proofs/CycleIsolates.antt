@@ -1,24 +1,23 @@
 -- A cycle in task mode keeps the protected part, save words 8 and 10 where it enters an interruption. No instruction is looked at.
 -- Assumes nothing.
-use Prim.Native.Nat.{ℕ, _+_, _-_, _*_, _/_, _%_, _≤_, _<_}
+use Prim.Native.Nat.{ℕ, _*_, _/_, _<_}
 use native.Mathlib.Omega.{arith}
 use mathlib.Core.Path.{_≡_, refl, sym, _∙_}
 use mathlib.Core.Bool.{Bool, true, false, cond}
 use lib.Dec.{ltb}
-use Rattle.machine.specs.declared.Control.{Control}
 use Rattle.machine.specs.declared.Instruction.{Instruction}
 use Rattle.machine.specs.Store.{word, putWord, absent, violation}
 use Rattle.machine.specs.Fields.{withIC, withIR}
 use Rattle.machine.specs.Records.{interruptionProgram}
-use Rattle.machine.specs.Format.{takenApart}
+use Rattle.machine.specs.Format.{instructionFields}
 use Rattle.integer.specs.Sums.{sum24}
 use Rattle.definition.specs.Machine.{Machine, machine, Effect, ok, fault}
 use Rattle.definition.specs.Codes.{executing, operating}
-use Rattle.definition.specs.Protected.{InTaskMode, EqualProtected}
+use Rattle.definition.specs.Protected.{EqualProtected}
 use Rattle.definition.proofs.MicroLaws.{reached, reach-cond}
 use Rattle.definition.proofs.Isolation.{equal-trans, equal-fewer, equal-put, equal-control, Isolated, isolated-control, allowed-cell, isolated-perform}
-use Rattle.running.specs.Runs.{CycleResult, instruction, entry}
-use Rattle.running.specs.Cycle.{lineOf, lineCleared, entryRecord, enter, fetched, address, indirectAbsent, operate, fetchRecord, decode, fetch, concluded, cycle}
+use Rattle.running.specs.Runs.{CycleResult}
+use Rattle.running.specs.Cycle.{lineOf, lineCleared, entryRecord, enter, fetched, indirectAbsent, operate, fetchRecord, decode, fetch, concluded, cycle}
 use Rattle.running.proofs.RunLaws.{Meets}
 
 -- `n` has entered an interruption with the protected part of `m`, save words 8 and 10
@@ -51,8 +50,8 @@ isolated-record : {m : Machine} (n : Machine) (b : Bool) → b ≡ false → Iso
 unfolding fetchRecord
 isolated-record n b e h = isolated-control _ refl refl (e ∙ sym (h .task)) h
 
-pub register-field : (v : ℕ) → takenApart v .w < 4
-unfolding takenApart
+pub register-field : (v : ℕ) → instructionFields v .w < 4
+unfolding instructionFields
 register-field v = omega arith
 
 isolated-decode : {m : Machine} (n : Machine) → Isolated m n → Isolated m (reached (decode (n .cells) (n .control)))

@@ -1,6 +1,6 @@
 -- A cycle that is an entry leaves the number of its kind in word 8.
 -- Assumes nothing.
-use Prim.Native.Nat.{ℕ, _*_, _%_, _<_}
+use Prim.Native.Nat.{ℕ, _*_, _<_}
 use native.Mathlib.Omega.{arith}
 use native.Mathlib.Nat.{mod-eq-of-lt}
 use mathlib.Core.Path.{_≡_, refl, _∙_}
@@ -8,15 +8,14 @@ use mathlib.Core.Bool.{Bool, true, false, cond}
 use lib.Dec.{ltb}
 use borrow.Author.Tests.{ltb-true}
 use Rattle.machine.specs.declared.Kind.{Kind}
-use Rattle.machine.specs.declared.Kind.the-variants.{Exception, Line}
 use Rattle.machine.specs.Store.{word, putWord}
 use Rattle.machine.specs.Answers.{kindNumber}
 use Rattle.machine.proofs.StoreLaws.{word-other, word-same}
-use Rattle.definition.specs.Machine.{Machine, machine, Effect, ok, fault}
+use Rattle.definition.specs.Machine.{Machine, Effect, ok, fault}
 use Rattle.definition.proofs.MicroLaws.{reached}
-use Rattle.definition.proofs.Validity.{Valid, Live}
-use Rattle.running.specs.Runs.{CycleResult, instruction, entry}
-use Rattle.running.specs.Cycle.{lineOf, lineCleared, enter, fetch, concluded, cycle}
+use Rattle.definition.proofs.Validity.{Valid}
+use Rattle.running.specs.Runs.{CycleResult}
+use Rattle.running.specs.Cycle.{lineOf, enter, fetch, concluded, cycle}
 use Rattle.running.specs.Run.{inReset}
 use Rattle.running.proofs.RunLaws.{Meets}
 use Rattle.running.proofs.CycleValid.{valid-lined, valid-fetch}

@@ -1,13 +1,12 @@
 -- A cycle takes an accepted machine outside the reset state to an accepted machine.
 -- Assumes nothing.
-use Prim.Native.Nat.{ℕ, _+_, _-_, _*_, _/_, _%_, _≤_, _<_}
+use Prim.Native.Nat.{ℕ, _/_, _<_}
 use native.Mathlib.Omega.{arith}
-use mathlib.Core.Path.{_≡_, refl, sym, _∙_}
+use mathlib.Core.Path.{_≡_, refl}
 use mathlib.Core.Bool.{Bool, true, false, cond}
 use lib.Dec.{ltb}
-use Rattle.machine.specs.declared.Control.{Control}
 use Rattle.machine.specs.declared.Instruction.{Instruction}
-use Rattle.machine.specs.Store.{word, putWord, absent, violation}
+use Rattle.machine.specs.Store.{putWord, absent, violation}
 use Rattle.machine.specs.Fields.{withIC, withIR, raised}
 use Rattle.machine.proofs.StoreLaws.{word-lt}
 use Rattle.acceptance.specs.Accept.{stateFits}
@@ -16,8 +15,8 @@ use Rattle.definition.specs.Machine.{Machine, machine, Effect, ok, fault}
 use Rattle.definition.specs.Codes.{executing, operating}
 use Rattle.definition.proofs.MicroLaws.{reached, reach-cond}
 use Rattle.definition.proofs.Validity.{Valid, Live, valid-put, valid-control, live-control, valid-reset, valid-perform}
-use Rattle.running.specs.Runs.{CycleResult, instruction, entry}
-use Rattle.running.specs.Cycle.{lineOf, lineCleared, entryRecord, enter, fetched, address, indirectAbsent, operate, fetchRecord, decode, fetch, concluded, cycle}
+use Rattle.running.specs.Runs.{CycleResult}
+use Rattle.running.specs.Cycle.{lineOf, lineCleared, entryRecord, enter, fetched, indirectAbsent, operate, fetchRecord, decode, fetch, concluded, cycle}
 use Rattle.running.specs.Run.{inReset, joined}
 use Rattle.running.specs.Keys.{resetKey, startRecord, startKey}
 use Rattle.running.proofs.RunLaws.{Meets}

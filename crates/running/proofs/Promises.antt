@@ -1,12 +1,11 @@
 -- The proofs of specs/Promises.antt.
 -- Assumes nothing.
-use Prim.Native.Nat.{ℕ, zero, suc, _+_, _-_, _*_, _/_, _%_, _≤_, _<_}
+use Prim.Native.Nat.{ℕ, zero, _*_, _/_, _<_}
 use native.Mathlib.Omega.{arith}
 use native.Mathlib.Nat.{mod-eq-of-lt}
 use mathlib.Core.Path.{_≡_, refl, sym, ap, _∙_}
 use mathlib.Core.Bool.{Bool, true, false, cond, true≢false}
-use mathlib.Core.List.{List, [], _∷_}
-use lib.Bits.{bitOr, or-zero-r}
+use lib.Bits.{or-zero-r}
 use lib.Dec.{ltb}
 use lib.ListN.{length}
 use Rattle.machine.specs.declared.Kind.{Kind}
@@ -21,18 +20,17 @@ use Rattle.machine.specs.Store.{word}
 use Rattle.machine.specs.Answers.{kindNumber, verdictNumber}
 use Rattle.machine.specs.Fields.{withIR, raised}
 use Rattle.acceptance.specs.Accept.{sizeFits, cellsFit, controlFits, judgeMachine, judgeCall, judgeRun}
-use Rattle.definition.specs.Machine.{Machine, machine}
-use Rattle.definition.specs.Protected.{forbiddenIn, InTaskMode, EqualProtected}
+use Rattle.definition.specs.Machine.{Machine}
+use Rattle.definition.specs.Protected.{InTaskMode, EqualProtected}
 use Rattle.definition.proofs.Isolation.{equal-refl, equal-trans, equal-sym, equal-fewer, forbidden-equal, Isolated, isolated-control}
 use Rattle.definition.proofs.Validity.{Valid, accepted-valid, valid-accepted}
-use Rattle.running.specs.Runs.{Ran, ended, refused, run}
-use Rattle.running.specs.Calls.{total, call, calls}
+use Rattle.running.specs.Runs.{run}
 use Rattle.running.specs.Cycle.{cycle}
-use Rattle.running.specs.Run.{inReset, judgeOf, joined, running, runMachine, runList}
-use Rattle.running.specs.Keys.{Pressed, pressedBy, pressingReset, pressingStart, resetKey, startKey}
-use Rattle.running.specs.Promises.{keptFrom, Isolation, EqualEntries, TwoRuns, BudgetList, entriesOf, Counts, CountsOfRun, StaysAccepted, KeysStayAccepted, RefusedRun, RefusedOnly, refusedNumber, dueRefusal, RefusalNumbers, StoredNumber}
+use Rattle.running.specs.Run.{inReset, judgeOf, joined, runMachine, runList}
+use Rattle.running.specs.Keys.{pressedBy, pressingReset, pressingStart, resetKey, startKey}
+use Rattle.running.specs.Promises.{keptFrom, Isolation, TwoRuns, BudgetList, Counts, CountsOfRun, StaysAccepted, KeysStayAccepted, RefusedRun, RefusedOnly, refusedNumber, dueRefusal, RefusalNumbers, StoredNumber}
 use Rattle.running.proofs.RunLaws.{run-counts, isRefused, run-made, EndsIn, run-keeps}
-use Rattle.running.proofs.CallLaws.{call-refused, call-run, call-cases, calls-total}
+use Rattle.running.proofs.CallLaws.{call-refused, call-cases, calls-total}
 use Rattle.running.proofs.CycleIsolates.{Entry, cycle-isolates}
 use Rattle.running.proofs.CycleStores.{Stored, cycle-stores}
 use Rattle.running.proofs.CycleValid.{cycle-valid, valid-joined, valid-resetKey, valid-startKey}

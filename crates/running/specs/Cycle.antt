@@ -11,7 +11,7 @@ use Rattle.machine.specs.declared.Kind.the-variants.{Exception, Line}
 use Rattle.machine.specs.Store.{word, byte, putWord, absent, forbidden, violation}
 use Rattle.machine.specs.Fields.{withIC, withIR}
 use Rattle.machine.specs.Records.{interruptNumber, returnAddress, interruptionProgram}
-use Rattle.machine.specs.Format.{takenApart}
+use Rattle.machine.specs.Format.{instructionFields}
 use Rattle.registers.specs.Reg.{signed}
 use Rattle.integer.specs.Sums.{sum24}
 use Rattle.definition.specs.Machine.{Machine, machine, Effect, ok, fault}
@@ -102,7 +102,7 @@ fetchRecord c p = record { ic = sum24 (c .ic) 2; ir = c .ir; im = c .im; pending
 -- IC := IC + 2; if not monitor mode and PR(PK) = 1 then goto Instruction Exception; ..
 unfoldable pub decode : List ℕ → Control → Effect
 decode s c =
-    let i = takenApart (fetched s (c .ic)) in
+    let i = instructionFields (fetched s (c .ic)) in
     cond (violation s c (c .ic / 2)) (fault (Jump (c .ic)) (machine s (withIC c (sum24 (c .ic) 2))))
     (operate s (fetchRecord c (forbidden s c (c .ic / 2))) i (address s c i))
 

@@ -1,7 +1,7 @@
 -- The panel keys (document 01, "Panel keys"), with the refusals 1 to 3.
 -- Assumes nothing.
-use Prim.Native.Nat.{ℕ, _/_, _*_, _%_}
-use mathlib.Core.Bool.{Bool, false, cond}
+use Prim.Native.Nat.{ℕ, _/_, _*_}
+use mathlib.Core.Bool.{false, cond}
 use mathlib.Core.List.{List}
 use Rattle.machine.specs.declared.Control.{Control}
 use Rattle.machine.specs.declared.Verdict.{Verdict}

@@ -2,7 +2,7 @@
 -- Assumes nothing.
 use Prim.Native.Nat.{ℕ}
 use Rattle.machine.specs.Fields.{inTask, withIC, withIR, withIM, withPending, withPR, withEX, withEnabled, raised, flagsCleared, overflowed, carrySet}
-use Rattle.machine.specs.Format.{takenApart}
+use Rattle.machine.specs.Format.{instructionFields}
 use Rattle.machine.specs.Records.{resetRecord}
 use Rattle.machine.specs.Store.{word, pair, key, putWord, putKey, byte, withByte, putByte, putLink, absent, forbids, forbidden, violation, firstWord}
 use Rattle.acceptance.specs.Accept.{sizeFits, cellFits, cellsFit, stateFits, controlFits, judgeStore, judgeMachine, judgeRun}
@@ -34,5 +34,5 @@ use Rattle.running.specs.Run.{running, runMachine}
 use Rattle.running.specs.Runs.{run}
 
 unfoldable pub opened : ℕ
-unfolding inTask withIC withIR withIM withPending withPR withEX withEnabled raised flagsCleared overflowed carrySet takenApart resetRecord word pair key putWord putKey byte withByte putByte putLink absent forbids forbidden violation firstWord sizeFits cellFits cellsFit stateFits controlFits judgeStore judgeMachine judgeRun iter until each logicalAnd logicalOr logicalXor cleared isHigh isLow isEqual isNotEqual bitsOne bitsZero sum difference sumWithCarry differenceWithCarry sum24 wmStep wmLast wm wdStep wdLoop abs24 wdSign wdCorrection wdEnd wd places leftStep arithmetic logical normalize normalized ci afLeft leftShifts normalizeOnce normalizeRound precise roundStore faSum faNegligible faAlign faByDifference addFloating fa fs cfEnd cfByPlaces cf fdStart fdAdd fdLoop divideFloating fd fmStep fmEnd fmLoop multiplyFloating fm fetchFloating codes lookup executing operating resetSystem meaning skipped microStep microSteps monitorStep monitorSteps perform extended call bitOf requested firstRequest looksAtLines lineOf bitAlone lineCleared entryRecord enter fetched displacement relative indexed address indirectAbsent effectiveAddress operate fetchRecord decode fetch concluded cycle resetKey startRecord startKey pressingReset pressingStart running runMachine run
+unfolding inTask withIC withIR withIM withPending withPR withEX withEnabled raised flagsCleared overflowed carrySet instructionFields resetRecord word pair key putWord putKey byte withByte putByte putLink absent forbids forbidden violation firstWord sizeFits cellFits cellsFit stateFits controlFits judgeStore judgeMachine judgeRun iter until each logicalAnd logicalOr logicalXor cleared isHigh isLow isEqual isNotEqual bitsOne bitsZero sum difference sumWithCarry differenceWithCarry sum24 wmStep wmLast wm wdStep wdLoop abs24 wdSign wdCorrection wdEnd wd places leftStep arithmetic logical normalize normalized ci afLeft leftShifts normalizeOnce normalizeRound precise roundStore faSum faNegligible faAlign faByDifference addFloating fa fs cfEnd cfByPlaces cf fdStart fdAdd fdLoop divideFloating fd fmStep fmEnd fmLoop multiplyFloating fm fetchFloating codes lookup executing operating resetSystem meaning skipped microStep microSteps monitorStep monitorSteps perform extended call bitOf requested firstRequest looksAtLines lineOf bitAlone lineCleared entryRecord enter fetched displacement relative indexed address indirectAbsent effectiveAddress operate fetchRecord decode fetch concluded cycle resetKey startRecord startKey pressingReset pressingStart running runMachine run
 opened = 0

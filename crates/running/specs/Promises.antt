@@ -1,7 +1,7 @@
 -- What is promised of every run: mission demand 3, and what it rests on. Each statement is a type; proofs/Promises.antt has the proofs under like names.
 -- All are about `runMachine`, the definition that the contracts of the code cite.
 -- Assumes nothing.
-use Prim.Native.Nat.{ℕ, _+_, _*_, _/_, _≤_, _<_}
+use Prim.Native.Nat.{ℕ, _+_, _*_, _/_, _≤_}
 use mathlib.Core.Path.{_≡_}
 use mathlib.Core.Bool.{true, false, cond}
 use mathlib.Core.List.{List}

@@ -11,9 +11,9 @@ use Rattle.machine.specs.declared.Outcome.the-variants.{Spent, Interrupted, Res
 use Rattle.machine.specs.declared.Refusal.the-variants.{StoreSize, Budget}
 use Rattle.machine.specs.declared.Answer.the-variants.{Refused, Ended}
 use Rattle.machine.specs.Store.{word, absent}
-use Rattle.machine.specs.Format.{takenApart}
+use Rattle.machine.specs.Format.{instructionFields}
 use Rattle.definition.specs.Machine.{Machine, machine}
-use Rattle.running.specs.Runs.{Ran, ended}
+use Rattle.running.specs.Runs.{ended}
 use Rattle.running.specs.Cycle.{address}
 use Rattle.running.specs.Run.{runMachine}
 use Rattle.running.specs.Opened.{opened}
@@ -70,7 +70,7 @@ unfolding opened
 al-least = (refl, refl, refl, refl)
 
 -- M = 2, X = 0, IC 16777214, D = 4: address 2
-address-wraps : address [] (monitor 16777214 0 0 false) (takenApart (2 * 16384 + 4)) ≡ 2
+address-wraps : address [] (monitor 16777214 0 0 false) (instructionFields (2 * 16384 + 4)) ≡ 2
 unfolding opened
 address-wraps = refl
 
@@ -121,14 +121,14 @@ unfolding opened
 address-16 = refl
 
 -- budget 65,535 passes, 65,536 does not; the machine here is in the reset state
-abbrev resting : Machine
-resting = machine (replicate 8 0) (record { ic = 0; ir = 0; im = 0; pending = 0; pr = 128; ex = 0; monitor = true; enabled = false; reset = true })
+abbrev inResetState : Machine
+inResetState = machine (replicate 8 0) (record { ic = 0; ir = 0; im = 0; pending = 0; pr = 128; ex = 0; monitor = true; enabled = false; reset = true })
 
-budget-65535 : runMachine 0 65535 resting .answer ≡ Ended Reset
+budget-65535 : runMachine 0 65535 inResetState .answer ≡ Ended Reset
 unfolding opened
 budget-65535 = refl
 
-budget-65536 : runMachine 0 65536 resting .answer ≡ Refused Budget
+budget-65536 : runMachine 0 65536 inResetState .answer ≡ Refused Budget
 unfolding opened
 budget-65536 = refl
 

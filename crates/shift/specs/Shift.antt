@@ -3,7 +3,7 @@ use Prim.Native.Nat.{ℕ, _-_, _/_, _^_, max}
 use mathlib.Core.Path.{_≡_, refl}
 use mathlib.Core.Bool.{cond}
 use lib.Dec.{ltb}
-use Rattle.registers.specs.Reg.{bit, sign, unlike, asr, shl, iter}
+use Rattle.registers.specs.Reg.{bit, sign, bitsDiffer, asr, shl, iter}
 use Rattle.shift.specs.declared.Shifted.{Shifted}
 
 -- if abs(SB) >= 64 then SB := sign(SB) * 48: the number of places, of m = abs(SB). For LS and LD see docs/DECISIONS.md A4.
@@ -15,12 +15,12 @@ unfoldable pub leftStep : ℕ → Shifted → Shifted
 leftStep n x =
     record {
       word = shl n (x .word);
-      over = max (x .over) (unlike (sign n (x .word)) (bit (n - 2) (x .word)));
+      over = max (x .over) (bitsDiffer (sign n (x .word)) (bit (n - 2) (x .word)));
     }
 
 -- W := shiftright W
-abbrev pub half : ℕ → ℕ
-half x = x / 2
+abbrev pub shr : ℕ → ℕ
+shr x = x / 2
 
 -- AS (24 bits), AD (48): EX(22:23) := 0; if SB < 0 then for SC := 1 step 1 until -SB do W(1:n-1) := W(0:n-2)
 -- else for SC := 1 step 1 until SB do the step to the left
@@ -33,7 +33,7 @@ arithmetic n sb w =
 -- LS (24 bits), LD (48): if SB < 0 then for SC := 1 step 1 until -SB do W := shiftright W else for SC := 1 step 1 until SB do W := shiftleft W
 unfoldable pub logical : ℕ → ℕ → ℕ → ℕ
 logical n sb w =
-    cond (ltb sb (2 ^ 23)) (iter (shl n) (places sb) w) (iter half (places (2 ^ 24 - sb)) w)
+    cond (ltb sb (2 ^ 23)) (iter (shl n) (places sb) w) (iter shr (places (2 ^ 24 - sb)) w)
 
 -- the sign is lost at the first place, although 0 is left
 as-over : arithmetic 24 2 4194304 ≡ record { word = 0; over = 1 }

@@ -2,7 +2,7 @@
 ghost use mathlib.Core.Path.{_≡_};
 ghost use Prim.Native.Nat.{_^_, _<_};
 ghost use Rattle.registers.specs.Reg.{asr, shl, iter};
-ghost use Rattle.shift.specs.Shift.{places, leftStep, arithmetic, logical, half};
+ghost use Rattle.shift.specs.Shift.{places, leftStep, arithmetic, logical, shr};
 
 // A register, and 1 where a shift to the left changed the sign.
 pub struct Shifted {
@@ -130,7 +130,7 @@ fn logical_left24(n: u32, w: u32) -> u32
 
 fn logical_right24(n: u32, w: u32) -> u32
     requires { ⌜ w < 2 ^ 24 ⌝ }
-    ensures { λ r. ⌜ (r ≡ iter half n w) × (r < 2 ^ 24) ⌝ }
+    ensures { λ r. ⌜ (r ≡ iter shr n w) × (r < 2 ^ 24) ⌝ }
 {
     let mut x = w;
     for i in 0..n {
@@ -165,7 +165,7 @@ fn logical_left48(n: u32, w: u64) -> u64
 
 fn logical_right48(n: u32, w: u64) -> u64
     requires { ⌜ w < 2 ^ 48 ⌝ }
-    ensures { λ r. ⌜ (r ≡ iter half n w) × (r < 2 ^ 48) ⌝ }
+    ensures { λ r. ⌜ (r ≡ iter shr n w) × (r < 2 ^ 48) ⌝ }
 {
     let mut x = w;
     for i in 0..n {

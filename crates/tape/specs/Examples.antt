@@ -1,4 +1,4 @@
--- The paper's tape of 32 bytes: a control record and the end.
+-- Document 01's tape of 32 bytes: a control record and the end.
 -- Assumes nothing.
 use Prim.Native.Nat.{ℕ}
 use mathlib.Core.Bool.{true}
@@ -15,27 +15,27 @@ use Rattle.tape.specs.Judge.{kindKnown, inOrder, lengthFits, judgeBlock,
 use Rattle.tape.specs.Load.{pasted, stored, loadRecord, loadRecords, loadedControl, judgeLoad, loading}
 use Rattle.tape.specs.Remark.{judgeReading, noSpan, remarkSpan}
 
-abbrev pub paperTape : List ℕ
-paperTape = 20 ∷ 0 ∷ 0 ∷ 0 ∷ 2 ∷ 0 ∷ replicate 16 0 ++ (128 ∷ 0 ∷ 5 ∷ 0 ∷ 0 ∷ 0 ∷ 0 ∷ 0 ∷ 3 ∷ 0 ∷ [])
+abbrev pub scopeTape : List ℕ
+scopeTape = 20 ∷ 0 ∷ 0 ∷ 0 ∷ 2 ∷ 0 ∷ replicate 16 0 ++ (128 ∷ 0 ∷ 5 ∷ 0 ∷ 0 ∷ 0 ∷ 0 ∷ 0 ∷ 3 ∷ 0 ∷ [])
 
 -- IC, IR, IM, pending and EX zero, PR 128, monitor mode, the reset state; the cells keep what they held; there is no remark
-pub paper-tape : (c : Control) → (loading paperTape (replicate 8 7) c ≡ record { cells = replicate 8 7; state = record { control = freshRecord; verdict = Accepted } }) × (remarkSpan paperTape 8 ≡ noSpan 0)
+pub paper-tape : (c : Control) → (loading scopeTape (replicate 8 7) c ≡ record { cells = replicate 8 7; state = record { control = freshRecord; verdict = Accepted } }) × (remarkSpan scopeTape 8 ≡ noSpan 0)
 unfolding lengthOf kindOf payloadOf restOf recordsWithin recordsOf firstOf controlOf kindKnown inOrder lengthFits controlGood judgeControl judgePayload judgeRecord judgeRecords judgeTape sizeFits cellsFit stateFits controlFits judgeStore loadRecord loadRecords loadedControl judgeLoad loading judgeReading remarkSpan
 paper-tape c = (refl, refl)
 
--- a block of two cells at the cell 6, a remark of one byte, then the paper's tape
+-- a block of two cells at the cell 6, a remark of one byte, then document 01's tape
 abbrev pub blockTape : List ℕ
-blockTape = 12 ∷ 0 ∷ 0 ∷ 0 ∷ 1 ∷ 0 ∷ 6 ∷ 0 ∷ 0 ∷ 0 ∷ 5 ∷ 0 ∷ 0 ∷ 0 ∷ 6 ∷ 0 ∷ 0 ∷ 7 ∷ 1 ∷ 0 ∷ 0 ∷ 0 ∷ 4 ∷ 0 ∷ 65 ∷ paperTape
+blockTape = 12 ∷ 0 ∷ 0 ∷ 0 ∷ 1 ∷ 0 ∷ 6 ∷ 0 ∷ 0 ∷ 0 ∷ 5 ∷ 0 ∷ 0 ∷ 0 ∷ 6 ∷ 0 ∷ 0 ∷ 7 ∷ 1 ∷ 0 ∷ 0 ∷ 0 ∷ 4 ∷ 0 ∷ 65 ∷ scopeTape
 
 pub block-tape : (c : Control) → (loading blockTape (replicate 8 7) c .cells ≡ replicate 6 7 ++ (5 ∷ 117440518 ∷ [])) × (remarkSpan blockTape 8 ≡ record { start = 24; end = 25; found = true; refusal = 0 })
 unfolding lengthOf kindOf payloadOf restOf recordsWithin recordsOf firstOf controlOf kindKnown inOrder lengthFits controlGood judgeControl judgePayload judgeRecord judgeRecords judgeTape sizeFits cellsFit stateFits controlFits judgeStore loadRecord loadRecords loadedControl judgeLoad loading judgeReading remarkSpan cellsFrom blockCells judgeBlock pasted stored
 block-tape c = (refl, refl)
 
 -- an unknown kind after the control record is 7, another record there is 11
-pub unknown-kind : judgeTape 8 (take 26 paperTape ++ (0 ∷ 0 ∷ 0 ∷ 0 ∷ 9 ∷ 0 ∷ [])) ≡ Rejected RecordKind
+pub unknown-kind : judgeTape 8 (take 26 scopeTape ++ (0 ∷ 0 ∷ 0 ∷ 0 ∷ 9 ∷ 0 ∷ [])) ≡ Rejected RecordKind
 unfolding lengthOf kindOf payloadOf restOf recordsWithin recordsOf controlOf kindKnown inOrder lengthFits controlGood judgeControl judgePayload judgeRecord judgeRecords judgeTape stateFits controlFits
 unknown-kind = refl
 
-pub second-control : judgeTape 8 (take 26 paperTape ++ paperTape) ≡ Rejected RecordOrder
+pub second-control : judgeTape 8 (take 26 scopeTape ++ scopeTape) ≡ Rejected RecordOrder
 unfolding lengthOf kindOf payloadOf restOf recordsWithin recordsOf controlOf kindKnown inOrder lengthFits controlGood judgeControl judgePayload judgeRecord judgeRecords judgeTape stateFits controlFits
 second-control = refl

@@ -1,6 +1,6 @@
 use native.Mathlib.Omega.{arith}
 use Rattle.registers.specs.Reg.{iter}
-use Rattle.shift.specs.Shift.{half}
+use Rattle.shift.specs.Shift.{shr}
 use Rattle.registers.proofs.Loops.{iter-none, iter-next}
 use mathlib.Core.Path.{_≡_, refl}
 use Prim.Native.Nat.{_≤_, _<_, _-_, _^_}
@@ -9,7 +9,7 @@ use Rattle.shift.proofs.logical_right48.Statement.{statement}
 use Rattle.shift.proofs.logical_right48.Tie as tie
 
 abbrev Inv-loop : tie.InvT-loop
-Inv-loop n w x₀ i₀ x i = (i ≤ n) × (x < 2 ^ 48) × (x ≡ iter half i x₀)
+Inv-loop n w x₀ i₀ x i = (i ≤ n) × (x < 2 ^ 48) × (x ≡ iter shr i x₀)
 
 abbrev μ-loop : tie.MeasureT-loop
 μ-loop n w x₀ i₀ x i = n - i

@@ -1,10 +1,10 @@
 use borrow.Author.Needs.{needs}
-use Rattle.machine.specs.Format.{takenApart}
+use Rattle.machine.specs.Format.{instructionFields}
 use Rattle.machine.proofs.Instruction.of_word.Statement.{statement}
 use Rattle.machine.proofs.Instruction.of_word.Tie as tie
 
 returns : tie.Need-returns
-unfolding takenApart
+unfolding instructionFields
 returns c = search needs
 
 pub of-word-spec : {M : Type 1} → statement M
