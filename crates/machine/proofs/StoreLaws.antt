@@ -66,23 +66,3 @@ cells-putKey s i k h = cells-set s i _ h (omega arith)
 pub word-lt : (s : List ℕ) (i : ℕ) → word s i < 16777216
 unfolding word
 word-lt s i = omega arith
-
-pub key-same : (s : List ℕ) (i k : ℕ) → i < length s → key (putKey s i k) i ≡ k % 8
-unfolding putKey key
-key-same s i k h = rw getD-set-same (omega arith)
-
-pub key-other : (s : List ℕ) (i k j : ℕ) → j ≢ i → key (putKey s i k) j ≡ key s j
-unfolding putKey key
-key-other s i k j h = rw getD-set-other
-
-pub word-putKey : (s : List ℕ) (i k j : ℕ) → word (putKey s i k) j ≡ word s j
-unfolding putKey word
-word-putKey s i k j = at (ℕ-discrete j i)
-  where
-    inside : Dec (i < length s) → word (putKey s i k) i ≡ word s i
-    inside (yes h) = rw getD-set-same (omega arith)
-    inside (no h) = let o : length s ≤ i = omega arith in rw set-out
-
-    at : Dec (j ≡ i) → word (putKey s i k) j ≡ word s j
-    at (yes e) = rw e (inside (decLt i (length s)))
-    at (no h) = rw getD-set-other
