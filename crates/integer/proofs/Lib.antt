@@ -1,3 +1,4 @@
--- Laws of the operations on single bits and on double words.
+-- Laws of the operations on single bits, of the adder and of double words.
 pub mod Digits
 pub mod Double
+pub mod Adder

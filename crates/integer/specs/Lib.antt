@@ -2,4 +2,5 @@
 pub mod Sums
 pub mod Bitwise
 pub mod Skip
+pub mod Adder
 pub mod Claims
