@@ -1,2 +1,3 @@
 -- Laws of floating-point division.
 pub mod Ends
+pub mod Passes
