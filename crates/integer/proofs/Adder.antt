@@ -1,19 +1,20 @@
 -- The adder's loop by induction on its passes: next carry and R together are the sum of the operands' last bits. Assumes nothing.
 use mathlib.Core.Path.{_≡_, refl, ap, _∙_, sym, subst}
 use mathlib.Core.Bool.{cond}
-use Prim.Native.Nat.{ℕ, zero, suc, _+_, _-_, _*_, _/_, _%_, _^_, _<_}
-use native.Mathlib.Nat.{mod-eq-of-lt, mod-one, mul-le-mul-right}
+use Prim.Native.Nat.{ℕ, zero, suc, _+_, _-_, _*_, _/_, _%_, _^_, _≤_, _<_}
+use native.Mathlib.Nat.{mod-eq-of-lt, mod-one, mod-lt, mul-le-mul-right, add-zero, add-suc}
 use native.Mathlib.Omega.{arith}
 use native.Mathlib.Numerals.{one-add}
 use native.Mathlib.Decide.{ℕ-discrete, decLt}
 use lib.Dec.{eqb}
-use lib.Pow.{mod-pow-add, high, low}
+use lib.Pow.{pow-mono, pow-pos, split, mod-pow-add, high, low}
 use borrow.Author.Tests.{eq-eqb, ne-eqb}
-use Rattle.registers.specs.Reg.{bit, signed, complement}
+use Rattle.registers.specs.Reg.{bit, sign, signed, complement}
 use Rattle.integer.specs.Bitwise.{each}
 use Rattle.integer.specs.Sums.{adder, sum, difference, sumWithCarry, differenceWithCarry, sum24}
-use Rattle.integer.specs.Adder.{AdderState, takeCarry, addBits, adderLoop, addition, notBit, negation, testInteger}
-use Rattle.integer.specs.Claims.{AdderLaw, CarryLaw, NotLaw, SubtractionLaw, SumsByAdder, DifferencesByAdder, AddressSumByAdder, ComparisonByAdder, TwoAdditions, TwoAdditionsOfZero}
+use Rattle.integer.specs.Elementary.{extension, notBit, negation}
+use Rattle.integer.specs.Adder.{AdderState, takeCarry, addBits, adderLoop, addition, testInteger}
+use Rattle.integer.specs.Claims.{SignedLaw, ShiftLeftLaw, AccumulatorByAdder, AdderLaw, CarryLaw, NotLaw, SubtractionLaw, SumsByAdder, DifferencesByAdder, AddressSumByAdder, ComparisonByAdder, TwoAdditions, TwoAdditionsOfZero}
 
 abbrev state : ℕ → ℕ → ℕ → AdderState
 state r c n = record { result = r; carry = c; nextCarry = n }
@@ -85,7 +86,28 @@ adder-law n c a b hc ha hb =
 pub carry-law : CarryLaw
 carry-law n c a b hc = carry-is a b c hc n
 
--- ---- not, and differences
+-- ---- signed, shiftleft, not, and differences
+extend : (s x p m : ℕ) → s * p + (x + s * m) ≡ x + s * (p + m)
+extend s x p m = omega arith
+
+pub signed-law : SignedLaw
+unfolding extension
+signed-law n zero x = rw (add-zero n) (let e : 2 ^ n - 2 ^ n ≡ 0 = omega arith in rw e (omega arith))
+signed-law n (suc d) x =
+    let w : 2 ^ (n + suc d) ≡ 2 * 2 ^ (n + d) = rw (add-suc n d) (omega arith) in
+    let l : 2 ^ n ≤ 2 ^ (n + d) = pow-mono {i = n} {j = n + d} (omega arith) in
+    let k : 2 * 2 ^ (n + d) - 2 ^ n ≡ 2 ^ (n + d) + (2 ^ (n + d) - 2 ^ n) = omega arith in
+    rw (signed-law n d x, w, k) (extend (sign n x) x (2 ^ (n + d)) (2 ^ (n + d) - 2 ^ n))
+
+pub shift-left-law : ShiftLeftLaw
+shift-left-law n x =
+    let w : 2 ^ suc n ≡ 2 * 2 ^ n = omega arith in
+    let r : x % 2 ^ n < 2 ^ n = mod-lt x (pow-pos n) in
+    let l : x % 2 ^ n * 2 < 2 ^ suc n = omega arith in
+    let e : x / 2 ^ n * (2 * 2 ^ n) + x % 2 ^ n * 2 ≡ x * 2 = omega (arith, split x n) in
+    let k : x / 2 ^ n * 2 ^ suc n + x % 2 ^ n * 2 ≡ x * 2 = rw w e in
+    sym (low (x / 2 ^ n) (suc n) l) ∙ ap (λ (z : ℕ). z % 2 ^ suc n) k
+
 not-digit : (x : ℕ) → x < 2 → notBit x x + x ≡ 1
 not-digit zero h = refl
 not-digit (suc zero) h = refl
@@ -142,6 +164,16 @@ pub differences-by-adder : DifferencesByAdder
 unfolding difference differenceWithCarry
 differences-by-adder c a b hc ha hb =
     (not-on-ar (signed 24 25 a) (signed 24 25 b) 1 (omega arith) (wide a ha) (wide b hb), not-on-ar (signed 24 25 a) (signed 24 25 b) c hc (wide a ha) (wide b hb))
+
+-- AR in ARBR
+on-arbr : (x p : ℕ) → (p + x * 2 ^ 24) % 2 ^ 49 ≡ (p / 2 ^ 24 + x) % 2 ^ 25 * 2 ^ 24 + p % 2 ^ 24
+on-arbr x p = omega arith
+
+pub accumulator-by-adder : AccumulatorByAdder
+accumulator-by-adder x p hx hp =
+    let a : p / 2 ^ 24 < 2 ^ 25 = omega arith in
+    let z : p / 2 ^ 24 + x + 0 ≡ p / 2 ^ 24 + x = omega arith in
+    (rw (adder-law 25 0 (p / 2 ^ 24) x (omega arith) a hx .0, z) (on-arbr x p), rw (subtraction-law 25 (p / 2 ^ 24) x a hx .0) (on-arbr (2 ^ 25 - x) p))
 
 pub address-sum-by-adder : AddressSumByAdder
 unfolding sum24

@@ -1,4 +1,4 @@
--- The adder (manual, 14.3), on registers R(0:j), A(0:j), B(0:j) of n = j + 1 bits. Place k is bit j - k: places are counted from the right.
+-- The adder (manual, 14.3): + and -, on registers R(0:j), A(0:j), B(0:j) of n = j + 1 bits. Place k is bit j - k: places are counted from the right.
 use Prim.Native.Nat.{ℕ, zero, suc, _+_, _*_, _%_, _^_}
 use mathlib.Core.Path.{_≡_, refl}
 use mathlib.Core.Bool.{cond}
@@ -6,6 +6,7 @@ use lib.Dec.{eqb}
 use Rattle.registers.specs.Reg.{bit, signed, complement, bitsDiffer}
 use Rattle.integer.specs.declared.Sum.{Sum}
 use Rattle.integer.specs.Bitwise.{each}
+use Rattle.integer.specs.Elementary.{negation}
 use Rattle.integer.specs.Sums.{difference, sumWithCarry, differenceWithCarry}
 
 -- R, as far as it is set, carry and next carry
@@ -42,14 +43,6 @@ adderLoop a b (suc k) s = addBits a b k (takeCarry (adderLoop a b k s))
 -- R := A + B, with a carry in c: 0 as printed
 abbrev pub addition : ℕ → ℕ → ℕ → ℕ → AdderState
 addition n c a b = adderLoop a b n (adderStart c)
-
--- if R(bit) = 0 then 1 else 0
-abbrev pub notBit : ℕ → ℕ → ℕ
-notBit x y = cond (eqb x 0) 1 0
-
--- R := not R: for bit := 0 step 1 until j do R(bit) := ..
-abbrev pub negation : ℕ → ℕ → ℕ
-negation n x = each notBit n x x
 
 -- R := A - B in one pass: A + not B with a carry in of 1 (docs/DECISIONS.md A1)
 abbrev pub subtraction : ℕ → ℕ → ℕ → AdderState

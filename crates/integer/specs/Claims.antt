@@ -1,10 +1,11 @@
 -- What is proved of the definitions, beside the contracts. Proved in proofs/Double.antt and proofs/Adder.antt.
 use Prim.Native.Nat.{ℕ, suc, _+_, _-_, _*_, _/_, _%_, _^_, _<_}
 use mathlib.Core.Path.{_≡_}
-use Rattle.registers.specs.Reg.{signed, complement}
+use Rattle.registers.specs.Reg.{signed, complement, shl, addAR, subAR}
 use Rattle.integer.specs.Sums.{sum, difference, sumWithCarry, differenceWithCarry, sum24}
 use Rattle.integer.specs.Skip.{comparison}
-use Rattle.integer.specs.Adder.{addition, negation, subtraction, twoAdditions, testInteger}
+use Rattle.integer.specs.Elementary.{extension, leftShift, negation}
+use Rattle.integer.specs.Adder.{addition, subtraction, twoAdditions, testInteger}
 
 -- AA: W by the first sum, then Wpre with its carry, is the sum of the two double words at 48 bits
 abbrev pub DoubleSum : Type 0
@@ -27,6 +28,14 @@ AdderLaw =
 -- 14.3: when the loop ends, carry is the carry into the left-most bit: for AR(-1:23) that out of bit 0
 abbrev pub CarryLaw : Type 0
 CarryLaw = (n c a b : ℕ) → c < 2 → addition (suc n) c a b .carry ≡ (a % 2 ^ n + b % 2 ^ n + c) / 2 ^ n
+
+-- 14.3: R := signed C, bit by bit, adds 2 ** m - 2 ** n where the sign is 1, for every width n and every longer one m = n + d
+abbrev pub SignedLaw : Type 0
+SignedLaw = (n d x : ℕ) → extension n d x ≡ signed n (n + d) x
+
+-- 14.3: R := shiftleft R is 2 R mod 2 ** (n + 1), for every width
+abbrev pub ShiftLeftLaw : Type 0
+ShiftLeftLaw = (n x : ℕ) → leftShift n x ≡ shl (suc n) x
 
 -- 14.3: R := not R, bit by bit, is 2 ** n - 1 - R
 abbrev pub NotLaw : Type 0
@@ -51,6 +60,13 @@ DifferencesByAdder =
     (c a b : ℕ) → c < 2 → a < 2 ^ 24 → b < 2 ^ 24
     → (difference a b ≡ testInteger (subtraction 25 (signed 24 25 a) (signed 24 25 b)))
     × (differenceWithCarry a b c ≡ testInteger (addition 25 c (signed 24 25 a) (negation 25 (signed 24 25 b))))
+
+-- AR := AR + x and AR := AR - x on ARBR (WM, WD) are the adder's on AR(-1:23); BR stays
+abbrev pub AccumulatorByAdder : Type 0
+AccumulatorByAdder =
+    (x p : ℕ) → x < 2 ^ 25 → p < 2 ^ 49
+    → (addAR x p ≡ addition 25 0 (p / 2 ^ 24) x .result * 2 ^ 24 + p % 2 ^ 24)
+    × (subAR x p ≡ subtraction 25 (p / 2 ^ 24) x .result * 2 ^ 24 + p % 2 ^ 24)
 
 -- a sum of addresses is the adder's on 24 bits
 abbrev pub AddressSumByAdder : Type 0

@@ -2,5 +2,6 @@
 pub mod Sums
 pub mod Bitwise
 pub mod Skip
+pub mod Elementary
 pub mod Adder
 pub mod Claims
