@@ -1,6 +1,6 @@
 -- The adder's loop by induction on its passes: next carry and R together are the sum of the operands' last bits. Assumes nothing.
 use mathlib.Core.Path.{_≡_, refl, ap, _∙_, sym, subst}
-use mathlib.Core.Bool.{cond}
+use mathlib.Core.Bool.{not, cond}
 use Prim.Native.Nat.{ℕ, zero, suc, _+_, _-_, _*_, _/_, _%_, _^_, _≤_, _<_}
 use native.Mathlib.Nat.{mod-eq-of-lt, mod-one, mod-lt, mul-le-mul-right, add-zero, add-suc}
 use native.Mathlib.Omega.{arith}
@@ -21,7 +21,7 @@ state r c n = record { result = r; carry = c; nextCarry = n }
 
 -- the printed rule for two bits is the sum of the bits and the carry; p is the weight of their place
 rule : (x y t r p : ℕ) → x < 2 → y < 2 → t < 2
-    → cond (eqb x y) (state (t * p + r) t x) (state (complement 1 t * p + r) t t) ≡ state ((x + y + t) % 2 * p + r) t ((x + y + t) / 2)
+    → cond (not (eqb x y)) (state (complement 1 t * p + r) t t) (state (t * p + r) t x) ≡ state ((x + y + t) % 2 * p + r) t ((x + y + t) / 2)
 rule x y t r p hx hy ht =
     elim (ℕ-discrete x y) [
       | yes e ↦ (let d : (x + y + t) % 2 ≡ t = omega arith in let q : (x + y + t) / 2 ≡ x = omega arith in rw (eq-eqb x y e, d, q) refl)

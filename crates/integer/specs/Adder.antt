@@ -1,7 +1,7 @@
 -- The adder (manual, 14.3): + and -, on registers R(0:j), A(0:j), B(0:j) of n = j + 1 bits. Place k is bit j - k: places are counted from the right.
 use Prim.Native.Nat.{ℕ, zero, suc, _+_, _*_, _%_, _^_}
 use mathlib.Core.Path.{_≡_, refl}
-use mathlib.Core.Bool.{cond}
+use mathlib.Core.Bool.{not, cond}
 use lib.Dec.{eqb}
 use Rattle.registers.specs.Reg.{bit, signed, complement, bitsDiffer}
 use Rattle.integer.specs.declared.Sum.{Sum}
@@ -33,7 +33,7 @@ bitsEqual a k s = record { result = s .carry * 2 ^ k + s .result; carry = s .car
 
 -- if A(bit) <> B(bit) then .. else ..
 unfoldable pub addBits : ℕ → ℕ → ℕ → AdderState → AdderState
-addBits a b k s = cond (eqb (bit k a) (bit k b)) (bitsEqual a k s) (bitsUnequal k s)
+addBits a b k s = cond (not (eqb (bit k a) (bit k b))) (bitsUnequal k s) (bitsEqual a k s)
 
 -- for bit := j step -1 until 0 do begin carry := next carry; .. end
 unfoldable pub adderLoop : ℕ → ℕ → ℕ → AdderState → AdderState
