@@ -23,7 +23,7 @@ cfRounded af = (af + bit 13 af * 2 ^ 14) % 2 ^ 39
 unfoldable pub cfEnd : ℕ → ℕ → Converted
 cfEnd word af = cond (eqb (sign 39 af) (bit 37 af)) (record { word = af / 2 ^ 14 % 2 ^ 24; over = 0 }) (record { word = word; over = 1 })
 
--- if SB < 0 and AF <> 0 then Integer Overflow; if SB >= 64 then AF := 0; if 0 < SB and SB < 64 then AF(0:37) := AF(-1:36), SB times; rounding; .. b is `biasedSB` of SB.
+-- SC := SB(11:23); if SB < 0 and AF <> 0 then Integer Overflow; if SB >= 64 then AF := 0; if 0 < SB and SB < 64 then AF(0:37) := AF(-1:36), SB times; rounding; .. b is `biasedSB` of SB.
 unfoldable pub cfByPlaces : ℕ → ℕ → ℕ → Converted
 cfByPlaces b word af =
     cond (ltb b (2 ^ 23))
