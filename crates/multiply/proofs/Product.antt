@@ -257,8 +257,8 @@ neg-end-1 m z p s lm hm hz hs hp e =
     same-rest (wmLast (2 ^ 25 - m) p) ((z + (2 ^ 48 - 2 ^ 23)) * s) (z + (2 ^ 48 - 2 ^ 23)) m (omega arith)
 
 -- the four cases of the signs
-pub product : ProductLaw
-product w s hw hs = elim (decLt s (2 ^ 23)) [ yes l ↦ plus l | no n ↦ less (omega arith) ]
+pub product-law : ProductLaw
+product-law w s hw hs = elim (decLt s (2 ^ 23)) [ yes l ↦ plus l | no n ↦ less (omega arith) ]
   where
     z : ℕ
     z = w % 2 ^ 23
