@@ -3,28 +3,32 @@
 use Prim.Native.Nat.{ℕ, _*_, _/_, _<_}
 use native.Mathlib.Omega.{arith}
 use mathlib.Core.Path.{_≡_, refl, sym, _∙_}
-use mathlib.Core.Bool.{Bool, true, false, cond}
-use lib.Dec.{ltb}
+use mathlib.Core.Bool.{Bool, true, false, not, cond, true≢false}
 use Rattle.machine.specs.declared.Instruction.{Instruction}
 use Rattle.machine.specs.Store.{word, putWord, absent, violation}
 use Rattle.machine.specs.Fields.{withIC, withIR}
 use Rattle.machine.specs.Records.{interruptionProgram}
-use Rattle.machine.specs.Format.{instructionFields}
 use Rattle.integer.specs.Sums.{sum24}
-use Rattle.definition.specs.Machine.{Machine, machine, Effect, ok, fault}
+use Rattle.acceptance.specs.Accept.{stateFits}
+use Rattle.definition.specs.Machine.{Machine, machine}
 use Rattle.definition.specs.Codes.{executing, operating}
 use Rattle.definition.specs.Protected.{EqualProtected}
 use Rattle.definition.proofs.MicroLaws.{reached, reach-cond}
 use Rattle.definition.proofs.Isolation.{equal-trans, equal-fewer, equal-put, equal-control, Isolated, isolated-control, allowed-cell, isolated-perform}
+use Rattle.definition.proofs.Validity.{Valid}
 use Rattle.running.specs.Runs.{CycleResult}
-use Rattle.running.specs.Cycle.{lineOf, lineCleared, entryRecord, enter, fetched, indirectAbsent, operate, fetchRecord, decode, fetch, concluded, cycle}
+use Rattle.running.specs.Cycle.{lineOf, lineCleared, entryRecord, enter, fetched, indirectAbsent, operate, fetchRecord, decode, fetch, cycle}
+use Rattle.running.specs.Run.{inReset}
 use Rattle.running.proofs.RunLaws.{Meets}
+use Rattle.running.proofs.CycleLaws.{register-field, cycle-meets}
+use Rattle.running.proofs.CycleValid.{valid-lined, valid-fetch}
 
 -- `n` has entered an interruption with the protected part of `m`, save words 8 and 10
 pub record Entry (m n : Machine) : Type 0 where
   pub equal : EqualProtected 12 m n
   pub monitor : n .control .monitor ≡ true
   pub disabled : n .control .enabled ≡ false
+  pub pending : n .control .pending ≡ 0
   pub starts : n .control .ic ≡ word (n .cells) (interruptionProgram / 2) / 2 * 2
 
 enter-entry : {m : Machine} (v : ℕ) (n : Machine) → Isolated m n → Entry m (enter v (n .cells) (n .control))
@@ -39,6 +43,7 @@ enter-entry v n h =
           (equal-trans (equal-put 12 first 5 (n .control .ic) (λ j l f. omega arith)) (equal-control 12 second _ refl refl)));
       monitor = refl;
       disabled = refl;
+      pending = refl;
       starts = refl;
     }
 
@@ -49,10 +54,6 @@ isolated-operate {m} i a n l h = reach-cond (Isolated m) (indirectAbsent (n .cel
 isolated-record : {m : Machine} (n : Machine) (b : Bool) → b ≡ false → Isolated m n → Isolated m (machine (n .cells) (fetchRecord (n .control) b))
 unfolding fetchRecord
 isolated-record n b e h = isolated-control _ refl refl (e ∙ sym (h .task)) h
-
-pub register-field : (v : ℕ) → instructionFields v .w < 4
-unfolding instructionFields
-register-field v = omega arith
 
 isolated-decode : {m : Machine} (n : Machine) → Isolated m n → Isolated m (reached (decode (n .cells) (n .control)))
 unfolding decode withIC
@@ -70,17 +71,32 @@ isolated-fetch {m} n h =
 abbrev pub Isolates : Machine → CycleResult Machine → Type 0
 Isolates m = Meets (Isolated m) (λ k. Entry m)
 
-concluded-isolates : {m : Machine} (e : Effect) → Isolated m (reached e) → Isolates m (concluded e)
-unfolding concluded
-concluded-isolates (ok n) h = h
-concluded-isolates (fault f n) h = enter-entry 0 n h
-
-isolates-cond : (m : Machine) (b : Bool) (x y : CycleResult Machine) → Isolates m x → Isolates m y → Isolates m (cond b x y)
-isolates-cond m true x y p q = p
-isolates-cond m false x y p q = q
-
 pub cycle-isolates : (m n : Machine) → Isolated m n → Isolates m (cycle n)
-unfolding cycle lineCleared withIR
+unfolding lineCleared withIR
 cycle-isolates m n h =
-    isolates-cond m (ltb (lineOf (n .control)) 24) _ _ (enter-entry _ (machine (n .cells) (lineCleared (n .control) (lineOf (n .control)))) (isolated-control _ refl refl refl h))
-    (concluded-isolates (fetch (n .cells) (n .control)) (isolated-fetch n h))
+    cycle-meets (Isolated m) (λ k. Entry m) n (isolated-fetch n h) (enter-entry 0)
+    (λ l. enter-entry _ (machine (n .cells) (lineCleared (n .control) (lineOf (n .control)))) (isolated-control _ refl refl refl h))
+
+-- ---- an entry from task mode is not in the reset state, since the reset state implies monitor mode
+
+not-reset : (r t e : Bool) → t ≡ false → cond r (cond t (not e) false) true ≡ true → r ≡ false
+not-reset true true e h q = absurd (true≢false h)
+not-reset true false e h q = absurd (true≢false (sym q))
+not-reset false t e h q = refl
+
+-- between cycles: an accepted machine in task mode, with the protected part of `m`
+pub record Task (m n : Machine) : Type 0 where
+  pub isolated : Isolated m n
+  pub valid : Valid n
+
+entered-outside : {m : Machine} (v : ℕ) (n : Machine) → Task m n → inReset (enter v (n .cells) (n .control)) ≡ false
+unfolding enter entryRecord stateFits
+entered-outside v n h = not-reset (n .control .reset) (n .control .monitor) (n .control .enabled) (h .isolated .task) (h .valid .state)
+
+pub cycle-outside : (m n : Machine) → inReset n ≡ false → Task m n → Meets (Task m) (λ k n. inReset n ≡ false) (cycle n)
+unfolding lineCleared withIR
+cycle-outside m n e h =
+    cycle-meets (Task m) (λ k n. inReset n ≡ false) n
+    (record { isolated = isolated-fetch n (h .isolated); valid = valid-fetch n (record { valid = h .valid; running = e }) })
+    (entered-outside 0)
+    (λ l. entered-outside _ _ (record { isolated = isolated-control _ refl refl refl (h .isolated); valid = valid-lined n (h .valid) }))

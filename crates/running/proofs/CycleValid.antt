@@ -4,23 +4,21 @@ use Prim.Native.Nat.{ℕ, _/_, _<_}
 use native.Mathlib.Omega.{arith}
 use mathlib.Core.Path.{_≡_, refl}
 use mathlib.Core.Bool.{Bool, true, false, cond}
-use lib.Dec.{ltb}
 use Rattle.machine.specs.declared.Instruction.{Instruction}
 use Rattle.machine.specs.Store.{putWord, absent, violation}
 use Rattle.machine.specs.Fields.{withIC, withIR, raised}
 use Rattle.machine.proofs.StoreLaws.{word-lt}
 use Rattle.acceptance.specs.Accept.{stateFits}
 use Rattle.integer.specs.Sums.{sum24}
-use Rattle.definition.specs.Machine.{Machine, machine, Effect, ok, fault}
+use Rattle.definition.specs.Machine.{Machine, machine}
 use Rattle.definition.specs.Codes.{executing, operating}
 use Rattle.definition.proofs.MicroLaws.{reached, reach-cond}
 use Rattle.definition.proofs.Validity.{Valid, Live, valid-put, valid-control, live-control, valid-reset, valid-perform}
-use Rattle.running.specs.Runs.{CycleResult}
-use Rattle.running.specs.Cycle.{lineOf, lineCleared, entryRecord, enter, fetched, indirectAbsent, operate, fetchRecord, decode, fetch, concluded, cycle}
+use Rattle.running.specs.Cycle.{lineOf, lineCleared, entryRecord, enter, fetched, indirectAbsent, operate, fetchRecord, decode, fetch, cycle}
 use Rattle.running.specs.Run.{inReset, joined}
 use Rattle.running.specs.Keys.{resetKey, startRecord, startKey}
 use Rattle.running.proofs.RunLaws.{Meets}
-use Rattle.running.proofs.CycleIsolates.{register-field}
+use Rattle.running.proofs.CycleLaws.{register-field, cycle-meets}
 
 state-entry : (r : Bool) → cond r (cond true true false) true ≡ true
 state-entry true = refl
@@ -54,27 +52,13 @@ valid-fetch n h =
     reach-cond Valid (absent (n .cells) (n .control .ic)) _ _ (λ e. h .valid)
     (λ e. reach-cond Valid (absent (n .cells) (sum24 (n .control .ic) 1)) _ _ (λ f. h .valid) (λ f. valid-decode n h))
 
-abbrev Stays : CycleResult Machine → Type 0
-Stays = Meets Valid (λ k. Valid)
-
-concluded-valid : (e : Effect) → Valid (reached e) → Stays (concluded e)
-unfolding concluded
-concluded-valid (ok n) h = h
-concluded-valid (fault f n) h = valid-enter 0 n h
-
-stays-cond : (b : Bool) (x y : CycleResult Machine) → Stays x → Stays y → Stays (cond b x y)
-stays-cond true x y p q = p
-stays-cond false x y p q = q
-
 pub valid-lined : (m : Machine) → Valid m → Valid (machine (m .cells) (lineCleared (m .control) (lineOf (m .control))))
 unfolding lineCleared withIR stateFits
 valid-lined m h = valid-control m _ (omega (arith, h .widths)) (h .state) h
 
 pub cycle-valid : (m : Machine) → inReset m ≡ false → Valid m → Meets Valid (λ k. Valid) (cycle m)
-unfolding cycle
 cycle-valid m e h =
-    stays-cond (ltb (lineOf (m .control)) 24) _ _ (valid-enter _ _ (valid-lined m h))
-    (concluded-valid (fetch (m .cells) (m .control)) (valid-fetch m (record { valid = h; running = e })))
+    cycle-meets Valid (λ k. Valid) m (valid-fetch m (record { valid = h; running = e })) (valid-enter 0) (λ l. valid-enter _ _ (valid-lined m h))
 
 pub valid-joined : (l : ℕ) (m : Machine) → Valid m → Valid (joined l m)
 unfolding raised withIR stateFits

@@ -1,7 +1,8 @@
 pub mod RunLaws
 pub mod CallLaws
-pub mod CycleIsolates
+pub mod CycleLaws
 pub mod CycleValid
+pub mod CycleIsolates
 pub mod CycleStores
 pub mod Promises
 pub mod Fetched

@@ -28,10 +28,10 @@ use Rattle.running.specs.Runs.{run}
 use Rattle.running.specs.Cycle.{cycle}
 use Rattle.running.specs.Run.{inReset, judgeOf, joined, runMachine, runList}
 use Rattle.running.specs.Keys.{pressedBy, pressingReset, pressingStart, resetKey, startKey}
-use Rattle.running.specs.Promises.{keptFrom, Isolation, TwoRuns, BudgetList, Counts, CountsOfRun, StaysAccepted, KeysStayAccepted, RefusedRun, RefusedOnly, refusedNumber, dueRefusal, RefusalNumbers, StoredNumber}
-use Rattle.running.proofs.RunLaws.{run-counts, isRefused, run-made, EndsIn, run-keeps}
-use Rattle.running.proofs.CallLaws.{call-refused, call-cases, calls-total}
-use Rattle.running.proofs.CycleIsolates.{Entry, cycle-isolates}
+use Rattle.running.specs.Promises.{keptFrom, Isolation, TwoRuns, BudgetList, Counts, CountsOfRun, ThatManyCycles, OutcomeOfRun, StaysAccepted, KeysStayAccepted, RefusedRun, RefusedOnly, refusedNumber, dueRefusal, RefusalNumbers, StoredNumber}
+use Rattle.running.proofs.RunLaws.{run-counts, run-cycled, isRefused, run-made, EndsIn, run-keeps}
+use Rattle.running.proofs.CallLaws.{call-refused, call-run, call-cases, calls-total}
+use Rattle.running.proofs.CycleIsolates.{Entry, cycle-isolates, Task, cycle-outside}
 use Rattle.running.proofs.CycleStores.{Stored, cycle-stores}
 use Rattle.running.proofs.CycleValid.{cycle-valid, valid-joined, valid-resetKey, valid-startKey}
 
@@ -146,6 +146,14 @@ counts-of-run l b m =
     (λ q e. record { most = omega arith; all = λ s. let z : _≡_ {A = ℕ} 0 1 = cc in omega arith; entry = refl })
     (λ e. run-counts inReset cycle b (joined l m))
 
+pub that-many-cycles : ThatManyCycles
+unfolding runMachine judgeRun
+that-many-cycles l b m e = rw (call-run inReset cycle judgeOf joined l b m e) (let h = run-cycled cycle inReset b (joined l m) in (h .machine, h .entries))
+
+pub outcome-of-run : OutcomeOfRun
+unfolding runMachine judgeRun
+outcome-of-run l b m e = rw (call-run inReset cycle judgeOf joined l b m e) (let h = run-cycled cycle inReset b (joined l m) in (h .ends, h .outside))
+
 -- ---- (a) isolation
 
 -- joining the lines keeps the protected part
@@ -175,6 +183,14 @@ interrupted-entry : (l b : ℕ) (m : Machine) (k : Kind) → InTaskMode m → ru
     → Entry m (runMachine l b m .machine)
 interrupted-entry l b m k t e = rw e at (ends-isolated l b m t)
 
+interrupted-outside : (l b : ℕ) (m : Machine) (k : Kind) → InTaskMode m → runMachine l b m .answer ≡ Ended (Interrupted k) → inReset (runMachine l b m .machine) ≡ false
+unfolding runMachine
+interrupted-outside l b m k t =
+    call-cases inReset cycle judgeOf joined (λ r. r .answer ≡ Ended (Interrupted k) → inReset (r .machine) ≡ false) l b m
+    (λ q e f. absurd (true≢false (ap isRefused f)))
+    (λ e f. rw f at (run-keeps (Task m) (λ c n. inReset n ≡ false) inReset cycle (cycle-outside m) b (joined l m)
+    (record { isolated = isolated-joined l m t; valid = valid-joined l m (accepted-valid m (accepted-machine (judgeOf m) l b e)) })))
+
 pub two-runs : TwoRuns
 two-runs m n l₁ b₁ l₂ b₂ k₁ k₂ t₁ t₂ h f e₁ e₂ =
     let g₁ : Entry m (runMachine l₁ b₁ m .machine) = interrupted-entry l₁ b₁ m k₁ t₁ e₁ in
@@ -187,6 +203,8 @@ two-runs m n l₁ b₁ l₂ b₂ k₁ k₂ t₁ t₂ h f e₁ e₂ =
       equal = k;
       monitor = (g₁ .monitor, g₂ .monitor);
       disabled = (g₁ .disabled, g₂ .disabled);
+      pending = (g₁ .pending, g₂ .pending);
+      reset = (interrupted-outside l₁ b₁ m k₁ t₁ e₁, interrupted-outside l₂ b₂ n k₂ t₂ e₂);
       same = g₁ .starts ∙ sym (g₂ .starts ∙ ap (λ w. w / 2 * 2) start);
-      starts = g₁ .starts;
+      starts = (g₁ .starts, g₂ .starts);
     }

@@ -1,6 +1,6 @@
 -- What holds of the runs of every machine: the counts, a run in parts, and what each cycle keeps.
 -- Assumes nothing.
-use Prim.Native.Nat.{ℕ, zero, suc, _+_}
+use Prim.Native.Nat.{ℕ, zero, suc, _+_, _<_}
 use native.Mathlib.Nat.{zero-add, suc-add}
 use native.Mathlib.Omega.{arith}
 use mathlib.Core.Path.{_≡_, refl, ap, _∙_}
@@ -10,8 +10,9 @@ use Rattle.machine.specs.declared.Outcome.{Outcome}
 use Rattle.machine.specs.declared.Outcome.the-variants.{Spent, Interrupted, Reset}
 use Rattle.machine.specs.declared.Answer.{Answer}
 use Rattle.machine.specs.declared.Answer.the-variants.{Refused, Ended}
+use Rattle.registers.specs.Reg.{iter}
 use Rattle.running.specs.Runs.{CycleResult, instruction, entry, Ran, ended, counted, after, added, thenBy, thenRun, run}
-use Rattle.running.specs.Promises.{Counts}
+use Rattle.running.specs.Promises.{Counts, machineOf, entryCount, cycles, entriesAmong, EndsAs}
 
 module _ {M : Type 0} (inReset : M → Bool) (cycle : M → CycleResult M) where
   pub run-reset : (n : ℕ) (m : M) → inReset m ≡ true → run inReset cycle n m ≡ ended Reset m 0 0
@@ -49,6 +50,68 @@ module _ {M : Type 0} (inReset : M → Bool) (cycle : M → CycleResult M) where
       go : ((k : M) → Counts n (run inReset cycle n k)) → (b : Bool) → inReset m ≡ b → Counts (suc n) (run inReset cycle (suc n) m)
       go h true e = count-reset (suc n) m e
       go h false e = rw (run-live inReset cycle n m e) (count-after n (cycle m) (run inReset cycle n) h)
+
+-- ---- the cycles of a run
+
+module _ {M : Type 0} (cycle : M → CycleResult M) where
+  cycles-next : (n : ℕ) (m : M) → cycles cycle (suc n) m ≡ cycles cycle n (machineOf (cycle m))
+  unfolding iter
+  cycles-next zero m = refl
+  cycles-next (suc n) m = ap (λ k. machineOf (cycle k)) (cycles-next n m)
+
+  among-next : (n : ℕ) (m : M) → entriesAmong cycle (suc n) m ≡ entryCount (cycle m) + entriesAmong cycle n (machineOf (cycle m))
+  unfolding entriesAmong iter
+  among-next zero m = omega arith
+  among-next (suc n) m = rw (cycles-next n m) (omega (arith, among-next n m))
+
+  module _ (inReset : M → Bool) where
+    -- the run r from m with the budget n is executed + entries cycles, as many of them entries as it says, none begun in the reset state, and it ends by its answer
+    pub record Cycled (n : ℕ) (m : M) (r : Ran M) : Type 0 where
+      pub machine : r .machine ≡ cycles cycle (r .executed + r .entries) m
+      pub entries : r .entries ≡ entriesAmong cycle (r .executed + r .entries) m
+      pub ends : EndsAs inReset cycle n m r (r .answer)
+      pub outside : (i : ℕ) → i < r .executed + r .entries → inReset (cycles cycle i m) ≡ false
+
+    no-cycle : (n : ℕ) (m : M) (o : Outcome) → EndsAs inReset cycle n m (ended o m 0 0) (Ended o) → Cycled n m (ended o m 0 0)
+    unfolding iter entriesAmong
+    no-cycle n m o h = record { machine = refl; entries = refl; ends = h; outside = λ i l. absurd (omega arith) }
+
+    ends-later : (n : ℕ) (m k : M) (r : Ran M) (a : Answer) → machineOf (cycle m) ≡ k → EndsAs inReset cycle n k r a → EndsAs inReset cycle (suc n) m (counted r) a
+    ends-later n m k r (Refused q) e h = h
+    ends-later n m k r (Ended Spent) e h = (h .0, ap suc (h .1))
+    ends-later n m k r (Ended (Interrupted c)) e h = rw (cycles-next, e) h
+    ends-later n m k r (Ended Reset) e h = h
+
+    outside-later : (m k : M) (d : ℕ) → machineOf (cycle m) ≡ k → inReset m ≡ false → ((i : ℕ) → i < d → inReset (cycles cycle i k) ≡ false)
+        → (i : ℕ) → i < suc d → inReset (cycles cycle i m) ≡ false
+    unfolding iter
+    outside-later m k d e f h zero l = f
+    outside-later m k d e f h (suc i) l = rw (cycles-next, e) (h i (omega arith))
+
+    cycled-after : (n : ℕ) (m : M) (t : CycleResult M) (rest : M → Ran M) → inReset m ≡ false → cycle m ≡ t → ((k : M) → Cycled n k (rest k)) → Cycled (suc n) m (after t rest)
+    unfolding iter entriesAmong
+    cycled-after n m (instruction k) rest f e h =
+        let moved : machineOf (cycle m) ≡ k = rw e in
+        let none : entryCount (cycle m) ≡ 0 = rw e in
+        record {
+          machine = rw (suc-add, cycles-next, moved) (h k .machine);
+          entries = rw (suc-add, among-next, moved, none) (omega (arith, h k .entries));
+          ends = ends-later n m k (rest k) (rest k .answer) moved (h k .ends);
+          outside = rw suc-add (outside-later m k (rest k .executed + rest k .entries) moved f (h k .outside));
+        }
+    cycled-after n m (entry c k) rest f e h = record { machine = rw e; entries = rw e; ends = e; outside = outside-later m k 0 (rw e) f (λ i l. absurd (omega arith)) }
+
+    pub run-cycled : (n : ℕ) (m : M) → Cycled n m (run inReset cycle n m)
+    run-cycled zero m = go (inReset m) refl
+      where
+        go : (b : Bool) → inReset m ≡ b → Cycled zero m (run inReset cycle zero m)
+        go true e = rw (run-reset inReset cycle zero m e) (no-cycle zero m Reset e)
+        go false e = rw (run-out inReset cycle m e) (no-cycle zero m Spent (e, refl))
+    run-cycled (suc n) m = go (run-cycled n) (inReset m) refl
+      where
+        go : ((k : M) → Cycled n k (run inReset cycle n k)) → (b : Bool) → inReset m ≡ b → Cycled (suc n) m (run inReset cycle (suc n) m)
+        go h true e = rw (run-reset inReset cycle (suc n) m e) (no-cycle (suc n) m Reset e)
+        go h false e = rw (run-live inReset cycle n m e) (cycled-after n m (cycle m) (run inReset cycle n) e refl h)
 
 -- ---- a run that is made is not refused
 

@@ -1,9 +1,9 @@
 -- What is promised of every run: mission demand 3, and what it rests on. Each statement is a type; proofs/Promises.antt has the proofs under like names.
 -- All are about `runMachine`, the definition that the contracts of the code cite.
 -- Assumes nothing.
-use Prim.Native.Nat.{ℕ, _+_, _*_, _/_, _≤_}
+use Prim.Native.Nat.{ℕ, zero, suc, _+_, _*_, _/_, _≤_, _<_}
 use mathlib.Core.Path.{_≡_}
-use mathlib.Core.Bool.{true, false, cond}
+use mathlib.Core.Bool.{Bool, true, false, cond}
 use mathlib.Core.List.{List}
 use lib.Dec.{ltb}
 use lib.ListN.{length}
@@ -17,11 +17,13 @@ use Rattle.machine.specs.Store.{word}
 use Rattle.machine.specs.Records.{interruptNumber, interruptionProgram}
 use Rattle.machine.specs.Answers.{refusalNumber, kindNumber}
 use Rattle.acceptance.specs.Accept.{sizeFits, cellsFit, controlFits, judgeMachine, judgeRun}
+use Rattle.registers.specs.Reg.{iter}
 use Rattle.definition.specs.Machine.{Machine}
 use Rattle.definition.specs.Protected.{forbiddenIn, InTaskMode, EqualProtected}
-use Rattle.running.specs.Runs.{Ran, refused}
+use Rattle.running.specs.Runs.{CycleResult, instruction, entry, Ran, refused}
 use Rattle.running.specs.Calls.{total}
-use Rattle.running.specs.Run.{runMachine, runList}
+use Rattle.running.specs.Cycle.{cycle}
+use Rattle.running.specs.Run.{inReset, joined, runMachine, runList}
 use Rattle.running.specs.Keys.{pressingReset, pressingStart}
 
 -- the address from which words are kept: all from 8 up, save words 8 and 10 if an interruption was entered
@@ -39,13 +41,17 @@ KeepsProtected m x = InTaskMode m → EqualProtected (keptFrom (x .answer)) m (x
 abbrev pub Isolation : Type 0
 Isolation = (lines budget : ℕ) (m : Machine) → KeepsProtected m (runMachine lines budget m)
 
--- two machines after an entry: protected parts equal save words 8 and 10, monitor mode, interrupts disabled, at the address in word 12
+-- two machines after an entry: protected parts equal save words 8 and 10, monitor mode, interrupts disabled, nothing pending, not in the reset
+-- state, and one IC, the address in word 12 with bit 23 cleared
 pub record EqualEntries (m n : Machine) : Type 0 where
   pub equal : EqualProtected 12 m n
   pub monitor : (m .control .monitor ≡ true) × (n .control .monitor ≡ true)
   pub disabled : (m .control .enabled ≡ false) × (n .control .enabled ≡ false)
+  pub pending : (m .control .pending ≡ 0) × (n .control .pending ≡ 0)
+  pub reset : (m .control .reset ≡ false) × (n .control .reset ≡ false)
   pub same : m .control .ic ≡ n .control .ic
-  pub starts : m .control .ic ≡ word (m .cells) (interruptionProgram / 2) / 2 * 2
+  pub starts :
+      (m .control .ic ≡ word (m .cells) (interruptionProgram / 2) / 2 * 2) × (n .control .ic ≡ word (n .cells) (interruptionProgram / 2) / 2 * 2)
 
 -- (b) two such runs, each with its own lines and budget, on equal protected parts with word 12 forbidden: if both end interrupted, they end in EqualEntries
 abbrev pub TwoRuns : Type 0
@@ -75,6 +81,48 @@ pub record Counts {M : Type 0} (budget : ℕ) (r : Ran M) : Type 0 where
 -- (d) the counts of every run
 abbrev pub CountsOfRun : Type 0
 CountsOfRun = (lines budget : ℕ) (m : Machine) → Counts budget (runMachine lines budget m)
+
+-- the machine after a cycle, an executed instruction or an entry
+abbrev pub machineOf : {M : Type 0} → CycleResult M → M
+machineOf (instruction m) = m
+machineOf (entry k m) = m
+
+-- 1 for an entry, 0 for an executed instruction
+abbrev pub entryCount : {M : Type 0} → CycleResult M → ℕ
+entryCount (instruction m) = 0
+entryCount (entry k m) = 1
+
+module _ {M : Type 0} (cycle : M → CycleResult M) where
+  -- the machine after n cycles from m
+  abbrev pub cycles : ℕ → M → M
+  cycles n m = iter (λ k. machineOf (cycle k)) n m
+
+  -- the entries among these n cycles
+  unfoldable pub entriesAmong : ℕ → M → ℕ
+  entriesAmong zero m = 0
+  entriesAmong (suc n) m = entriesAmong n m + entryCount (cycle (cycles n m))
+
+-- (d) a run that is accepted hands back the machine after executed + entries cycles, made from the machine with the lines joined; so many of them
+-- are entries, and the others executed instructions
+abbrev pub ThatManyCycles : Type 0
+ThatManyCycles =
+    (lines budget : ℕ) (m : Machine) → judgeRun (m .cells) (m .control) lines budget ≡ Accepted → let r = runMachine lines budget m in
+    (r .machine ≡ cycles cycle (r .executed + r .entries) (joined lines m))
+    × (r .entries ≡ entriesAmong cycle (r .executed + r .entries) (joined lines m))
+
+-- a run from m ends as: reset state; interrupted, the last cycle being an entry of that kind; spent, the budget being used
+abbrev pub EndsAs : {M : Type 0} → (M → Bool) → (M → CycleResult M) → ℕ → M → Ran M → Answer → Type 0
+EndsAs inReset cycle budget m r (Refused q) = ⊥
+EndsAs inReset cycle budget m r (Ended Reset) = inReset (r .machine) ≡ true
+EndsAs inReset cycle budget m r (Ended (Interrupted k)) = cycle (cycles cycle (r .executed) m) ≡ entry k (r .machine)
+EndsAs inReset cycle budget m r (Ended Spent) = (inReset (r .machine) ≡ false) × (r .executed ≡ budget)
+
+-- a run that is accepted ends so, and none of its cycles begins in the reset state
+abbrev pub OutcomeOfRun : Type 0
+OutcomeOfRun =
+    (lines budget : ℕ) (m : Machine) → judgeRun (m .cells) (m .control) lines budget ≡ Accepted → let r = runMachine lines budget m in
+    EndsAs inReset cycle budget (joined lines m) r (r .answer)
+    × ((i : ℕ) → i < r .executed + r .entries → inReset (cycles cycle i (joined lines m)) ≡ false)
 
 -- (e) an accepted machine stays accepted, by a run and by the panel keys
 abbrev pub StaysAccepted : Type 0
