@@ -74,7 +74,7 @@ Isolates m = Meets (Isolated m) (λ k. Entry m)
 pub cycle-isolates : (m n : Machine) → Isolated m n → Isolates m (cycle n)
 unfolding lineCleared withIR
 cycle-isolates m n h =
-    cycle-meets (Isolated m) (λ k. Entry m) n (isolated-fetch n h) (enter-entry 0)
+    cycle-meets (Isolated m) (λ k. Entry m) n (isolated-fetch n h) (λ f k e. enter-entry 0 k)
     (λ l. enter-entry _ (machine (n .cells) (lineCleared (n .control) (lineOf (n .control)))) (isolated-control _ refl refl refl h))
 
 -- ---- an entry from task mode is not in the reset state, since the reset state implies monitor mode
@@ -98,5 +98,5 @@ unfolding lineCleared withIR
 cycle-outside m n e h =
     cycle-meets (Task m) (λ k n. inReset n ≡ false) n
     (record { isolated = isolated-fetch n (h .isolated); valid = valid-fetch n (record { valid = h .valid; running = e }) })
-    (entered-outside 0)
+    (λ f k q. entered-outside 0 k)
     (λ l. entered-outside _ _ (record { isolated = isolated-control _ refl refl refl (h .isolated); valid = valid-lined n (h .valid) }))

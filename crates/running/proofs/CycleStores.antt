@@ -28,5 +28,5 @@ stored v n l h =
 
 pub cycle-stores : (m : Machine) → inReset m ≡ false → Valid m → Meets Valid Stored (cycle m)
 cycle-stores m e h =
-    cycle-meets Valid Stored m (valid-fetch m (record { valid = h; running = e })) (λ n q. stored 0 n (omega arith) q)
+    cycle-meets Valid Stored m (valid-fetch m (record { valid = h; running = e })) (λ f n q. stored 0 n (omega arith))
     (λ l. stored (lineOf (m .control) * 2) _ (omega arith) (valid-lined m h))

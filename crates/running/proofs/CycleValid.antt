@@ -58,7 +58,7 @@ valid-lined m h = valid-control m _ (omega (arith, h .widths)) (h .state) h
 
 pub cycle-valid : (m : Machine) → inReset m ≡ false → Valid m → Meets Valid (λ k. Valid) (cycle m)
 cycle-valid m e h =
-    cycle-meets Valid (λ k. Valid) m (valid-fetch m (record { valid = h; running = e })) (valid-enter 0) (λ l. valid-enter _ _ (valid-lined m h))
+    cycle-meets Valid (λ k. Valid) m (valid-fetch m (record { valid = h; running = e })) (λ f k q. valid-enter 0 k) (λ l. valid-enter _ _ (valid-lined m h))
 
 pub valid-joined : (l : ℕ) (m : Machine) → Valid m → Valid (joined l m)
 unfolding raised withIR stateFits

@@ -5,4 +5,5 @@ pub mod CycleValid
 pub mod CycleIsolates
 pub mod CycleStores
 pub mod Promises
+pub mod Claims
 pub mod Fetched

@@ -5,5 +5,6 @@ pub mod Run
 pub mod Keys
 pub mod Bridge
 pub mod Promises
+pub mod Claims
 pub mod Opened
 pub mod Table

@@ -1,0 +1,133 @@
+-- What a panel key and an interruption entry change, field by field, and that nothing else changes. The proofs stand in proofs/Claims.antt.
+-- Assumes nothing.
+use Prim.Native.Nat.{ℕ, _+_, _-_, _*_, _/_, _^_, _<_}
+use mathlib.Core.Path.{_≡_}
+use mathlib.Core.Logic.{_≢_}
+use mathlib.Core.Bool.{true, false, cond}
+use mathlib.Core.List.{List}
+use lib.ListN.{length}
+use Rattle.machine.specs.declared.Fault.{Fault}
+use Rattle.machine.specs.declared.Kind.{Kind}
+use Rattle.machine.specs.declared.Kind.the-variants.{Exception, Line}
+use Rattle.machine.specs.declared.Refusal.{Refusal}
+use Rattle.machine.specs.declared.Verdict.the-variants.{Accepted, Rejected}
+use Rattle.machine.specs.Store.{word, key}
+use Rattle.machine.specs.Records.{interruptNumber, returnAddress, interruptionProgram, startAddress}
+use Rattle.machine.specs.Answers.{verdictNumber}
+use Rattle.acceptance.specs.Accept.{sizeFits, cellsFit, controlFits}
+use Rattle.definition.specs.Machine.{Machine, fault}
+use Rattle.running.specs.Runs.{entry}
+use Rattle.running.specs.Cycle.{bitOf, fetch, cycle}
+use Rattle.running.specs.Run.{inReset, judgeOf}
+use Rattle.running.specs.Keys.{pressingReset, pressingStart}
+
+-- the store t has the size and the keys of s, and its words in all cells but those of the addresses a and b
+pub record SameCells (a b : ℕ) (s t : List ℕ) : Type 0 where
+  pub size : length t ≡ length s
+  pub keys : (i : ℕ) → key t i ≡ key s i
+  pub words : (i : ℕ) → i ≢ a / 2 → i ≢ b / 2 → word t i ≡ word s i
+
+-- ---- Panel keys
+
+-- reset stores IC in word 10, clears the pending modification and sets the reset state
+pub record ResetPressed (m n : Machine) : Type 0 where
+  pub stored : word (n .cells) (returnAddress / 2) ≡ m .control .ic
+  pub cells : SameCells returnAddress returnAddress (m .cells) (n .cells)
+  pub pending : n .control .pending ≡ 0
+  pub reset : n .control .reset ≡ true
+  pub monitor : n .control .monitor ≡ true
+  pub disabled : n .control .enabled ≡ false
+  pub ic : n .control .ic ≡ m .control .ic
+  pub ir : n .control .ir ≡ m .control .ir
+  pub im : n .control .im ≡ m .control .im
+  pub pr : n .control .pr ≡ m .control .pr
+  pub ex : n .control .ex ≡ m .control .ex
+
+-- start takes IC from word 14, bit 23 cleared, and leaves the reset state
+pub record StartPressed (m n : Machine) : Type 0 where
+  pub ic : n .control .ic ≡ word (m .cells) (startAddress / 2) / 2 * 2
+  pub reset : n .control .reset ≡ false
+  pub cells : n .cells ≡ m .cells
+  pub ir : n .control .ir ≡ m .control .ir
+  pub im : n .control .im ≡ m .control .im
+  pub pending : n .control .pending ≡ m .control .pending
+  pub pr : n .control .pr ≡ m .control .pr
+  pub ex : n .control .ex ≡ m .control .ex
+  pub monitor : n .control .monitor ≡ m .control .monitor
+  pub enabled : n .control .enabled ≡ m .control .enabled
+
+-- the reset key outside the reset state does that, and in the reset state it changes nothing
+abbrev pub ResetKey : Type 0
+ResetKey =
+    (m : Machine) → judgeOf m ≡ Accepted
+    → (inReset m ≡ false → ResetPressed m (pressingReset (m .cells) (m .control) .machine))
+    × (inReset m ≡ true → pressingReset (m .cells) (m .control) .machine ≡ m)
+
+-- the start key in the reset state does that, and elsewhere it changes nothing
+abbrev pub StartKey : Type 0
+StartKey =
+    (m : Machine) → judgeOf m ≡ Accepted
+    → (inReset m ≡ true → StartPressed m (pressingStart (m .cells) (m .control) .machine))
+    × (inReset m ≡ false → pressingStart (m .cells) (m .control) .machine ≡ m)
+
+-- a refused key changes nothing, and says why
+abbrev pub RefusedKeys : Type 0
+RefusedKeys =
+    (m : Machine) (q : Refusal) → judgeOf m ≡ Rejected q
+    → (pressingReset (m .cells) (m .control) ≡ record { machine = m; verdict = Rejected q })
+    × (pressingStart (m .cells) (m .control) ≡ record { machine = m; verdict = Rejected q })
+
+-- the first of the numbers 1 to 3 whose condition is met, 0 for none
+abbrev pub dueOfKey : Machine → ℕ
+dueOfKey m = cond (sizeFits (length (m .cells))) (cond (cellsFit (m .cells)) (cond (controlFits (m .control)) 0 3) 2) 1
+
+-- a key is refused by these numbers, and by no others
+abbrev pub KeyNumbers : Type 0
+KeyNumbers =
+    (m : Machine)
+    → (verdictNumber (pressingReset (m .cells) (m .control) .verdict) ≡ dueOfKey m)
+    × (verdictNumber (pressingStart (m .cells) (m .control) .verdict) ≡ dueOfKey m)
+
+-- ---- Interruption entry
+
+-- the number v in word 8, IC in word 10, IC taken from word 12, bit 23 cleared, monitor mode, interrupts disabled, no pending modification
+pub record Entered (v : ℕ) (m n : Machine) : Type 0 where
+  pub number : word (n .cells) (interruptNumber / 2) ≡ v
+  pub stored : word (n .cells) (returnAddress / 2) ≡ m .control .ic
+  pub cells : SameCells interruptNumber returnAddress (m .cells) (n .cells)
+  pub ic : n .control .ic ≡ word (m .cells) (interruptionProgram / 2) / 2 * 2
+  pub monitor : n .control .monitor ≡ true
+  pub disabled : n .control .enabled ≡ false
+  pub pending : n .control .pending ≡ 0
+  pub reset : n .control .reset ≡ m .control .reset
+  pub im : n .control .im ≡ m .control .im
+  pub pr : n .control .pr ≡ m .control .pr
+  pub ex : n .control .ex ≡ m .control .ex
+
+-- line p, looked at where interrupts are enabled and nothing is pending, is the left-most raised one with mask bit one; only its bit is cleared; the
+-- number stored is twice its position
+pub record LineTaken (p : ℕ) (m n : Machine) : Type 0 where
+  pub place : p < 24
+  pub enabled : m .control .enabled ≡ true
+  pub none : m .control .pending ≡ 0
+  pub raised : bitOf (m .control .ir) p ≡ 1
+  pub masked : bitOf (m .control .im) p ≡ 1
+  pub leftmost : (i : ℕ) → i < p → bitOf (m .control .ir) i ≡ 1 → bitOf (m .control .im) i ≡ 1 → ⊥
+  pub cleared : n .control .ir + 2 ^ (23 - p) ≡ m .control .ir
+  pub entered : Entered (p * 2) m n
+
+-- an instruction of m met a fault; the entry, number 0, is made from the machine that it left, and IR stays
+pub record ExceptionMet (m n : Machine) : Type 0 where
+  pub cause : Fault
+  pub left : Machine
+  pub met : fetch (m .cells) (m .control) ≡ fault cause left
+  pub ir : n .control .ir ≡ left .control .ir
+  pub entered : Entered 0 left n
+
+abbrev pub EntryBy : Kind → Machine → Machine → Type 0
+EntryBy Exception m n = ExceptionMet m n
+EntryBy (Line v) m n = (v ≡ v / 2 * 2) × LineTaken (v / 2) m n
+
+-- what a cycle does that is an entry
+abbrev pub EntryOfCycle : Type 0
+EntryOfCycle = (m n : Machine) (k : Kind) → judgeOf m ≡ Accepted → inReset m ≡ false → cycle m ≡ entry k n → EntryBy k m n
