@@ -9,7 +9,7 @@ use mathlib.Core.Bool.{Bool, true, false, cond, true≢false}
 use mathlib.Core.List.{List}
 use lib.Dec.{eqb}
 use lib.ListN.{length}
-use borrow.Author.Tests.{eqb-true}
+use borrow.Author.Tests.{eqb-true, lt-ltb}
 use Rattle.machine.specs.declared.Control.{Control}
 use Rattle.machine.specs.declared.Refusal.the-variants.{StoreSize, CellValue, ControlField}
 use Rattle.machine.specs.declared.Verdict.{Verdict}
@@ -25,10 +25,11 @@ use Rattle.definition.proofs.Validity.{Valid, both, accepted-valid}
 use Rattle.running.specs.Cycle.{bitOf, requested, firstRequest, looksAtLines, lineOf, bitAlone, lineCleared, entryRecord, enter, cycle}
 use Rattle.running.specs.Run.{inReset, judgeOf}
 use Rattle.running.specs.Keys.{pressedBy, resetKey, startRecord, startKey, pressingReset, pressingStart}
-use Rattle.running.specs.Claims.{SameCells, ResetPressed, StartPressed, ResetKey, StartKey, RefusedKeys, KeyNumbers, Entered, LineTaken, EntryBy, EntryOfCycle}
+use Rattle.running.specs.Claims.{SameCells, ResetPressed, StartPressed, ResetKey, StartKey, RefusedKeys, KeyNumbers, Entered, LineTaken, EntryBy, EntryOfCycle, LinesTaken}
 use Rattle.running.proofs.RunLaws.{Meets}
 use Rattle.running.proofs.CycleLaws.{cycle-meets}
 use Rattle.running.proofs.CycleValid.{valid-lined, valid-fetch}
+use Rattle.running.proofs.Entries.{entered}
 
 -- ---- panel keys
 
@@ -94,34 +95,6 @@ key-numbers m =
     let due = machine-number (sizeFits (length (m .cells))) (cellsFit (m .cells)) (controlFits (m .control)) in
     (number-kept (judgeOf m) m (resetKey (m .cells) (m .control)) ∙ due, number-kept (judgeOf m) m (startKey (m .cells) (m .control)) ∙ due)
 
--- ---- the entry
-
-entered : (v : ℕ) (n : Machine) → v < 16777216 → Valid n → Entered v n (enter v (n .cells) (n .control))
-unfolding enter entryRecord
-entered v n l h =
-    let there = h .least in
-    let s = n .cells in
-    let t = putWord s 4 v in
-    let i = n .control .ic in
-    record {
-      number = word-other t 5 i 4 (λ e. omega arith) ∙ word-same s 4 v (omega arith) ∙ mod-eq-of-lt l;
-      stored = word-same t 5 i (rw length-putWord (omega arith)) ∙ mod-eq-of-lt (h .widths .ic);
-      cells =
-          record {
-            size = length-putWord t 5 i ∙ length-putWord s 4 v;
-            keys = λ j. key-putWord t 5 i j ∙ key-putWord s 4 v j;
-            words = λ j a b. word-other t 5 i j b ∙ word-other s 4 v j a;
-          };
-      ic = ap (λ w. w / 2 * 2) (word-other t 5 i 6 (λ e. omega arith) ∙ word-other s 4 v 6 (λ e. omega arith));
-      monitor = refl;
-      disabled = refl;
-      pending = refl;
-      reset = refl;
-      im = refl;
-      pr = refl;
-      ex = refl;
-    }
-
 -- ---- the line that is taken
 
 -- q is the first of the n positions from p on that is requested, or p + n
@@ -146,6 +119,9 @@ first-request (suc n) p ir im = first-cond (requested ir im p) n p ir im (firstR
 looked : (b : Bool) (q : ℕ) → cond b q 24 < 24 → (b ≡ true) × (cond b q 24 ≡ q)
 looked true q l = (refl, refl)
 looked false q l = absurd (omega arith)
+
+looking : (e : Bool) (n : ℕ) → e ≡ true → n ≡ 0 → cond e (eqb n 0) false ≡ true
+looking e n p q = rw (p, q)
 
 not-requested : (ir im i : ℕ) → requested ir im i ≡ false → bitOf ir i ≡ 1 → bitOf im i ≡ 1 → ⊥
 unfolding requested
@@ -202,6 +178,20 @@ line-taken m h l =
       cleared = line-cleared c p (h .widths .ir) raised;
       entered = other-ir m _ _ (entered (p * 2) (machine (m .cells) (lineCleared c p)) (omega arith) (valid-lined m h));
     }
+
+pub lines-taken : LinesTaken
+unfolding cycle lineOf looksAtLines requested
+lines-taken m p l e n a b =
+    let c = m .control in
+    let first = first-request 24 0 (c .ir) (c .im) in
+    let least : firstRequest 24 0 (c .ir) (c .im) ≤ p = not-before (decLt p (firstRequest 24 0 (c .ir) (c .im))) in
+    let looks : looksAtLines c ≡ true = looking (c .enabled) (c .pending) e n in
+    let taken : lineOf c < 24 = rw looks (omega arith) in
+    rw (lt-ltb (lineOf c) 24 taken)
+  where
+    not-before : Dec (p < firstRequest 24 0 (m .control .ir) (m .control .im)) → firstRequest 24 0 (m .control .ir) (m .control .im) ≤ p
+    not-before (yes k) = absurd (not-requested (m .control .ir) (m .control .im) p (first-request 24 0 (m .control .ir) (m .control .im) .before p (omega arith) k) a b)
+    not-before (no k) = omega arith
 
 entry-by : (m : Machine) → Valid m → inReset m ≡ false → Meets Valid (λ k n. EntryBy k m n) (cycle m)
 unfolding enter entryRecord

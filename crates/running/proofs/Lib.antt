@@ -3,7 +3,7 @@ pub mod CallLaws
 pub mod CycleLaws
 pub mod CycleValid
 pub mod CycleIsolates
-pub mod CycleStores
+pub mod Entries
 pub mod Promises
 pub mod Claims
 pub mod Fetched

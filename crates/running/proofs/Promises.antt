@@ -32,7 +32,7 @@ use Rattle.running.specs.Promises.{keptFrom, Isolation, TwoRuns, BudgetL
 use Rattle.running.proofs.RunLaws.{run-counts, run-cycled, isRefused, run-made, EndsIn, run-keeps}
 use Rattle.running.proofs.CallLaws.{call-refused, call-run, call-cases, calls-total}
 use Rattle.running.proofs.CycleIsolates.{Entry, cycle-isolates, Task, cycle-outside}
-use Rattle.running.proofs.CycleStores.{Stored, cycle-stores}
+use Rattle.running.proofs.Entries.{Stored, cycle-stores}
 use Rattle.running.proofs.CycleValid.{cycle-valid, valid-joined, valid-resetKey, valid-startKey}
 
 -- ---- (e) an accepted machine stays accepted

@@ -3,7 +3,7 @@
 use Prim.Native.Nat.{ℕ, _+_, _-_, _*_, _/_, _^_, _<_}
 use mathlib.Core.Path.{_≡_}
 use mathlib.Core.Logic.{_≢_}
-use mathlib.Core.Bool.{true, false, cond}
+use mathlib.Core.Bool.{Bool, true, false, cond}
 use mathlib.Core.List.{List}
 use lib.ListN.{length}
 use Rattle.machine.specs.declared.Fault.{Fault}
@@ -16,7 +16,7 @@ use Rattle.machine.specs.Records.{interruptNumber, returnAddress, interruptionP
 use Rattle.machine.specs.Answers.{verdictNumber}
 use Rattle.acceptance.specs.Accept.{sizeFits, cellsFit, controlFits}
 use Rattle.definition.specs.Machine.{Machine, fault}
-use Rattle.running.specs.Runs.{entry}
+use Rattle.running.specs.Runs.{CycleResult, instruction, entry}
 use Rattle.running.specs.Cycle.{bitOf, fetch, cycle}
 use Rattle.running.specs.Run.{inReset, judgeOf}
 use Rattle.running.specs.Keys.{pressingReset, pressingStart}
@@ -131,3 +131,14 @@ EntryBy (Line v) m n = (v ≡ v / 2 * 2) × LineTaken (v / 2) m n
 -- what a cycle does that is an entry
 abbrev pub EntryOfCycle : Type 0
 EntryOfCycle = (m n : Machine) (k : Kind) → judgeOf m ≡ Accepted → inReset m ≡ false → cycle m ≡ entry k n → EntryBy k m n
+
+abbrev pub takesLine : CycleResult Machine → Bool
+takesLine (instruction m) = false
+takesLine (entry Exception m) = false
+takesLine (entry (Line v) m) = true
+
+-- where interrupts are enabled, nothing is pending and a raised line has its mask bit one, the cycle takes a line
+abbrev pub LinesTaken : Type 0
+LinesTaken =
+    (m : Machine) (p : ℕ) → p < 24 → m .control .enabled ≡ true → m .control .pending ≡ 0 → bitOf (m .control .ir) p ≡ 1 → bitOf (m .control .im) p ≡ 1
+    → takesLine (cycle m) ≡ true
