@@ -179,19 +179,20 @@ line-taken m h l =
       entered = other-ir m _ _ (entered (p * 2) (machine (m .cells) (lineCleared c p)) (omega arith) (valid-lined m h));
     }
 
+first-least : (p ir im : ℕ) → bitOf ir p ≡ 1 → bitOf im p ≡ 1 → firstRequest 24 0 ir im ≤ p
+first-least p ir im a b = at (decLt p (firstRequest 24 0 ir im))
+  where
+    at : Dec (p < firstRequest 24 0 ir im) → firstRequest 24 0 ir im ≤ p
+    at (yes k) = absurd (not-requested ir im p (first-request 24 0 ir im .before p (omega arith) k) a b)
+    at (no k) = omega arith
+
 pub lines-taken : LinesTaken
-unfolding cycle lineOf looksAtLines requested
+unfolding cycle lineOf looksAtLines
 lines-taken m p l e n a b =
     let c = m .control in
-    let first = first-request 24 0 (c .ir) (c .im) in
-    let least : firstRequest 24 0 (c .ir) (c .im) ≤ p = not-before (decLt p (firstRequest 24 0 (c .ir) (c .im))) in
     let looks : looksAtLines c ≡ true = looking (c .enabled) (c .pending) e n in
-    let taken : lineOf c < 24 = rw looks (omega arith) in
+    let taken : lineOf c < 24 = rw looks (omega (arith, first-least p (c .ir) (c .im) a b)) in
     rw (lt-ltb (lineOf c) 24 taken)
-  where
-    not-before : Dec (p < firstRequest 24 0 (m .control .ir) (m .control .im)) → firstRequest 24 0 (m .control .ir) (m .control .im) ≤ p
-    not-before (yes k) = absurd (not-requested (m .control .ir) (m .control .im) p (first-request 24 0 (m .control .ir) (m .control .im) .before p (omega arith) k) a b)
-    not-before (no k) = omega arith
 
 entry-by : (m : Machine) → Valid m → inReset m ≡ false → Meets Valid (λ k n. EntryBy k m n) (cycle m)
 unfolding enter entryRecord

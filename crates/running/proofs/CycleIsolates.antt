@@ -4,6 +4,7 @@ use Prim.Native.Nat.{ℕ, _*_, _/_, _<_}
 use native.Mathlib.Omega.{arith}
 use mathlib.Core.Path.{_≡_, refl, sym, _∙_}
 use mathlib.Core.Bool.{Bool, true, false, not, cond, true≢false}
+use Rattle.machine.specs.declared.Control.{Control}
 use Rattle.machine.specs.declared.Instruction.{Instruction}
 use Rattle.machine.specs.Store.{word, putWord, absent, violation}
 use Rattle.machine.specs.Fields.{withIC, withIR}
@@ -31,16 +32,18 @@ pub record Entry (m n : Machine) : Type 0 where
   pub pending : n .control .pending ≡ 0
   pub starts : n .control .ic ≡ word (n .cells) (interruptionProgram / 2) / 2 * 2
 
+two-words : (v i : ℕ) (n : Machine) (c : Control) → c .pr ≡ n .control .pr → c .im ≡ n .control .im
+    → EqualProtected 12 n (machine (putWord (putWord (n .cells) 4 v) 5 i) c)
+two-words v i n c p q =
+    let first : Machine = machine (putWord (n .cells) 4 v) (n .control) in
+    equal-trans (equal-put 12 n 4 v (λ j l f. omega arith))
+    (equal-trans (equal-put 12 first 5 i (λ j l f. omega arith)) (equal-control 12 (machine (putWord (first .cells) 5 i) (n .control)) c p q))
+
 enter-entry : {m : Machine} (v : ℕ) (n : Machine) → Isolated m n → Entry m (enter v (n .cells) (n .control))
 unfolding enter entryRecord
 enter-entry v n h =
-    let first : Machine = machine (putWord (n .cells) 4 v) (n .control) in
-    let second : Machine = machine (putWord (first .cells) 5 (n .control .ic)) (n .control) in
     record {
-      equal =
-          equal-trans (equal-fewer 12 (omega arith) (h .equal))
-          (equal-trans (equal-put 12 n 4 v (λ j l f. omega arith))
-          (equal-trans (equal-put 12 first 5 (n .control .ic) (λ j l f. omega arith)) (equal-control 12 second _ refl refl)));
+      equal = equal-trans (equal-fewer 12 (omega arith) (h .equal)) (two-words v _ n _ refl refl);
       monitor = refl;
       disabled = refl;
       pending = refl;

@@ -5,7 +5,7 @@ use native.Mathlib.Omega.{arith}
 use mathlib.Core.Path.{_≡_, refl}
 use mathlib.Core.Bool.{Bool, true, false, cond}
 use Rattle.machine.specs.declared.Instruction.{Instruction}
-use Rattle.machine.specs.Store.{putWord, absent, violation}
+use Rattle.machine.specs.Store.{absent, violation}
 use Rattle.machine.specs.Fields.{withIC, withIR, raised}
 use Rattle.machine.proofs.StoreLaws.{word-lt}
 use Rattle.acceptance.specs.Accept.{stateFits}
@@ -24,13 +24,13 @@ state-entry : (r : Bool) → cond r (cond true true false) true ≡ true
 state-entry true = refl
 state-entry false = refl
 
+valid-entry : (n : Machine) (a : ℕ) → a < 16777216 → Valid n → Valid (machine (n .cells) (entryRecord (n .control) a))
+unfolding entryRecord stateFits
+valid-entry n a l h = valid-control n _ (omega (arith, h .widths)) (state-entry (n .control .reset)) h
+
 valid-enter : (v : ℕ) (n : Machine) → Valid n → Valid (enter v (n .cells) (n .control))
-unfolding enter entryRecord stateFits
-valid-enter v n h =
-    let first : Machine = machine (putWord (n .cells) 4 v) (n .control) in
-    let second : Machine = machine (putWord (first .cells) 5 (n .control .ic)) (n .control) in
-    valid-control second _ (omega (arith, h .widths, word-lt (second .cells) 6)) (state-entry (n .control .reset))
-    (valid-put 5 (n .control .ic) first (valid-put 4 v n h))
+unfolding enter
+valid-enter v n h = valid-entry (machine _ (n .control)) _ (word-lt _ _) (valid-put 5 _ (machine _ (n .control)) (valid-put 4 v n h))
 
 live-record : (n : Machine) (b : Bool) → Live n → Live (machine (n .cells) (fetchRecord (n .control) b))
 unfolding fetchRecord sum24
