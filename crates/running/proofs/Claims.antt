@@ -39,9 +39,10 @@ same-put a s v = record { size = length-putWord s (a / 2) v; keys = key-putWord 
 pressed-machine : (m n : Machine) → judgeOf m ≡ Accepted → pressedBy (judgeOf m) m n .machine ≡ n
 pressed-machine m n e = rw e
 
-reset-pressed : (m : Machine) → Valid m → inReset m ≡ false → ResetPressed m (resetKey (m .cells) (m .control))
-unfolding resetKey resetSystem resetRecord
-reset-pressed m h e = subst (ResetPressed m) (sym (ap (λ b. cond b m (resetSystem (m .cells) (m .control))) e)) (record {
+reset-pressed : (m : Machine) → Valid m → ResetPressed m (resetSystem (m .cells) (m .control))
+unfolding resetSystem resetRecord
+reset-pressed m h =
+    record {
       stored = word-same (m .cells) 5 (m .control .ic) (omega (arith, h .least)) ∙ mod-eq-of-lt (h .widths .ic);
       cells = same-put returnAddress (m .cells) (m .control .ic);
       pending = refl;
@@ -53,15 +54,14 @@ reset-pressed m h e = subst (ResetPressed m) (sym (ap (λ b. cond b m (resetSyst
       im = refl;
       pr = refl;
       ex = refl;
-    })
+    }
 
 pub reset-key : ResetKey
 unfolding pressingReset resetKey
 reset-key m e =
-    let pressed = pressed-machine m (resetKey (m .cells) (m .control)) e in (
-      λ o. subst (ResetPressed m) (sym pressed) (reset-pressed m (accepted-valid m e) o),
-      λ i. pressed ∙ ap (λ b. cond b m (resetSystem (m .cells) (m .control))) i,
-    )
+    let pressed = pressed-machine m (resetKey (m .cells) (m .control)) e in
+    let by : Bool → Machine = λ b. cond b m (resetSystem (m .cells) (m .control)) in
+    (λ o. subst (ResetPressed m) (sym (pressed ∙ ap by o)) (reset-pressed m (accepted-valid m e)), λ i. pressed ∙ ap by i)
 
 start-pressed : (m : Machine) → StartPressed m (machine (m .cells) (startRecord (m .control) (word (m .cells) 7)))
 unfolding startRecord

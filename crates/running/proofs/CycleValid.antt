@@ -3,7 +3,8 @@
 use Prim.Native.Nat.{ℕ, _/_, _<_}
 use native.Mathlib.Omega.{arith}
 use mathlib.Core.Path.{_≡_, refl}
-use mathlib.Core.Bool.{Bool, true, false, cond}
+use mathlib.Core.Bool.{Bool, true, false, not, cond}
+use Rattle.machine.specs.declared.Control.{Control}
 use Rattle.machine.specs.declared.Instruction.{Instruction}
 use Rattle.machine.specs.Store.{absent, violation}
 use Rattle.machine.specs.Fields.{withIC, withIR, raised}
@@ -20,13 +21,17 @@ use Rattle.running.specs.Keys.{resetKey, startRecord, startKey}
 use Rattle.running.proofs.RunLaws.{Meets}
 use Rattle.running.proofs.CycleLaws.{register-field, cycle-meets}
 
-state-entry : (r : Bool) → cond r (cond true true false) true ≡ true
-state-entry true = refl
-state-entry false = refl
+in-monitor : (c : Control) → c .monitor ≡ true → c .enabled ≡ false → stateFits c ≡ true
+unfolding stateFits
+in-monitor c p q = by (c .reset) (c .monitor) (c .enabled) p q
+  where
+    by : (r m e : Bool) → m ≡ true → e ≡ false → cond r (cond m (not e) false) true ≡ true
+    by true m e p q = rw (p, q)
+    by false m e p q = refl
 
 valid-entry : (n : Machine) (a : ℕ) → a < 16777216 → Valid n → Valid (machine (n .cells) (entryRecord (n .control) a))
-unfolding entryRecord stateFits
-valid-entry n a l h = valid-control n _ (omega (arith, h .widths)) (state-entry (n .control .reset)) h
+unfolding entryRecord
+valid-entry n a l h = valid-control n _ (omega (arith, h .widths)) (in-monitor _ refl refl) h
 
 valid-enter : (v : ℕ) (n : Machine) → Valid n → Valid (enter v (n .cells) (n .control))
 unfolding enter

@@ -5,6 +5,8 @@ use native.Mathlib.Omega.{arith}
 use native.Mathlib.Nat.{mod-eq-of-lt}
 use mathlib.Core.Path.{_≡_, refl, ap, _∙_}
 use mathlib.Core.Bool.{false}
+use mathlib.Core.List.{List}
+use lib.ListN.{length}
 use Rattle.machine.specs.declared.Kind.{Kind}
 use Rattle.machine.specs.Store.{word, putWord}
 use Rattle.machine.specs.Answers.{kindNumber}
@@ -13,31 +15,34 @@ use Rattle.definition.specs.Machine.{Machine}
 use Rattle.definition.proofs.Validity.{Valid}
 use Rattle.running.specs.Cycle.{lineOf, entryRecord, enter, cycle}
 use Rattle.running.specs.Run.{inReset}
-use Rattle.running.specs.Claims.{Entered}
+use Rattle.running.specs.Claims.{SameCells, Entered}
 use Rattle.running.proofs.RunLaws.{Meets}
 use Rattle.running.proofs.CycleLaws.{cycle-meets}
 use Rattle.running.proofs.CycleValid.{valid-lined, valid-fetch}
 
-abbrev pub Stored : Kind → Machine → Type 0
-Stored k m = word (m .cells) 4 ≡ kindNumber k
+-- the two writes of an entry
+same-cells : (s : List ℕ) (v i : ℕ) → SameCells 8 10 s (putWord (putWord s 4 v) 5 i)
+same-cells s v i =
+    record {
+      size = length-putWord (putWord s 4 v) 5 i ∙ length-putWord s 4 v;
+      keys = λ j. key-putWord (putWord s 4 v) 5 i j ∙ key-putWord s 4 v j;
+      words = λ j a b. word-other (putWord s 4 v) 5 i j b ∙ word-other s 4 v j a;
+    }
+
+first-word : (s : List ℕ) (v i : ℕ) → 4 < length s → v < 16777216 → word (putWord (putWord s 4 v) 5 i) 4 ≡ v
+first-word s v i l h = word-other (putWord s 4 v) 5 i 4 (λ e. omega arith) ∙ word-same s 4 v l ∙ mod-eq-of-lt h
+
+second-word : (s : List ℕ) (v i : ℕ) → 5 < length s → i < 16777216 → word (putWord (putWord s 4 v) 5 i) 5 ≡ i
+second-word s v i l h = word-same (putWord s 4 v) 5 i (rw length-putWord l) ∙ mod-eq-of-lt h
 
 pub entered : (v : ℕ) (n : Machine) → v < 16777216 → Valid n → Entered v n (enter v (n .cells) (n .control))
 unfolding enter entryRecord
 entered v n l h =
-    let there = h .least in
-    let s = n .cells in
-    let t = putWord s 4 v in
-    let i = n .control .ic in
     record {
-      number = word-other t 5 i 4 (λ e. omega arith) ∙ word-same s 4 v (omega arith) ∙ mod-eq-of-lt l;
-      stored = word-same t 5 i (rw length-putWord (omega arith)) ∙ mod-eq-of-lt (h .widths .ic);
-      cells =
-          record {
-            size = length-putWord t 5 i ∙ length-putWord s 4 v;
-            keys = λ j. key-putWord t 5 i j ∙ key-putWord s 4 v j;
-            words = λ j a b. word-other t 5 i j b ∙ word-other s 4 v j a;
-          };
-      ic = ap (λ w. w / 2 * 2) (word-other t 5 i 6 (λ e. omega arith) ∙ word-other s 4 v 6 (λ e. omega arith));
+      number = first-word (n .cells) v _ (omega (arith, h .least)) l;
+      stored = second-word (n .cells) v (n .control .ic) (omega (arith, h .least)) (h .widths .ic);
+      cells = same-cells (n .cells) v _;
+      ic = ap (λ w. w / 2 * 2) (same-cells (n .cells) v _ .words 6 (λ e. omega arith) (λ e. omega arith));
       monitor = refl;
       disabled = refl;
       pending = refl;
@@ -46,6 +51,9 @@ entered v n l h =
       pr = refl;
       ex = refl;
     }
+
+abbrev pub Stored : Kind → Machine → Type 0
+Stored k m = word (m .cells) 4 ≡ kindNumber k
 
 pub cycle-stores : (m : Machine) → inReset m ≡ false → Valid m → Meets Valid Stored (cycle m)
 cycle-stores m e h =

@@ -107,6 +107,7 @@ decode s c =
     (operate s (fetchRecord c (forbidden s c (c .ic / 2))) i (address s c i))
 
 -- if IC > word limit then goto Instruction Exception; and so where IC + 1 does not exist (docs/DECISIONS.md B2)
+-- The print goes on `if reset key then goto Reset System`: a panel key is no part of a cycle but a call of its own (Keys.antt, `pressingReset`).
 unfoldable pub fetch : List ℕ → Control → Effect
 fetch s c =
     cond (absent s (c .ic)) (fault (Absent (c .ic)) (machine s c))
@@ -114,7 +115,8 @@ fetch s c =
 
 -- ---- the cycle
 
--- Instruction Exception: an entry with the number 0, IR as it is (docs/DECISIONS.md B8)
+-- 14.6, Instruction Exception: IR(0) := 1; goto Interruption Service. By document 01 an exception heeds neither mask nor disabling, and clearing is said of a
+-- line that is taken: so it is an entry with the number 0 that leaves IR as it is, a given bit 0 too (docs/DECISIONS.md B8)
 unfoldable pub concluded : Effect → CycleResult Machine
 concluded (ok m) = instruction m
 concluded (fault f m) = entry Exception (enter 0 (m .cells) (m .control))

@@ -25,6 +25,7 @@ unfoldable pub startRecord : Control → ℕ → Control
 startRecord c a = record { ic = a / 2 * 2; ir = c .ir; im = c .im; pending = c .pending; pr = c .pr; ex = c .ex; monitor = c .monitor; enabled = c .enabled; reset = false }
 
 -- 14.4, After Reset: if start key then IC := word(14); IC(23) := 0; outside the reset state it changes nothing
+-- Before it the print has `if autoload key then .. goto Autoload Word`: there is no autoload key until a device is connected (document 02, E1).
 unfoldable pub startKey : List ℕ → Control → Machine
 startKey s c = cond (c .reset) (machine s (startRecord c (word s (startAddress / 2)))) (machine s c)
 

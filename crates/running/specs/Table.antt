@@ -96,6 +96,24 @@ line-entry :
 unfolding opened
 line-entry = refl
 
+-- AL w1 5, AL w1 x1 + 3, and a code that is not assigned, from address 14
+abbrev three : Control → Machine
+three c = machine (0 ∷ 0 ∷ 0 ∷ 0 ∷ 7 ∷ 7 ∷ 14 ∷ 2949125 ∷ 2953219 ∷ 16515072 ∷ []) c
+
+-- two cycles of it: both instructions are executed, and the budget is spent
+two-cycles :
+    runMachine 0 2 (three (monitor 14 0 0 false))
+    ≡ ended Spent (machine (0 ∷ 8 ∷ 0 ∷ 0 ∷ 7 ∷ 7 ∷ 14 ∷ 2949125 ∷ 2953219 ∷ 16515072 ∷ []) (monitor 18 0 0 false)) 2 0
+unfolding opened
+two-cycles = refl
+
+-- with budget left, the third cycle is an entry, and ends the run
+three-cycles :
+    runMachine 0 9 (three (monitor 14 0 0 false))
+    ≡ ended (Interrupted Exception) (machine (0 ∷ 8 ∷ 0 ∷ 0 ∷ 0 ∷ 20 ∷ 14 ∷ 2949125 ∷ 2953219 ∷ 16515072 ∷ []) (monitor 14 0 0 false)) 2 1
+unfolding opened
+three-cycles = refl
+
 -- ---- edges
 
 -- an instruction that jumps to itself at address 14: JL 14
