@@ -44,16 +44,9 @@ unfolding resetSystem resetRecord
 reset-pressed m h =
     record {
       stored = word-same (m .cells) 5 (m .control .ic) (omega (arith, h .least)) ∙ mod-eq-of-lt (h .widths .ic);
+      state = (refl, record { monitor = refl; disabled = refl; pending = refl });
       cells = same-put returnAddress (m .cells) (m .control .ic);
-      pending = refl;
-      reset = refl;
-      monitor = refl;
-      disabled = refl;
-      ic = refl;
-      ir = refl;
-      im = refl;
-      pr = refl;
-      ex = refl;
+      kept = (refl, refl, record { im = refl; pr = refl; ex = refl });
     }
 
 pub reset-key : ResetKey
@@ -66,7 +59,7 @@ reset-key m e =
 start-pressed : (m : Machine) → StartPressed m (machine (m .cells) (startRecord (m .control) (word (m .cells) 7)))
 unfolding startRecord
 start-pressed m =
-    record { ic = refl; reset = refl; cells = refl; ir = refl; im = refl; pending = refl; pr = refl; ex = refl; monitor = refl; enabled = refl }
+    record { ic = refl; state = refl; cells = refl; kept = (refl, refl, record { im = refl; pr = refl; ex = refl }); modes = (refl, refl) }
 
 pub start-key : StartKey
 unfolding pressingStart startKey
@@ -143,19 +136,7 @@ line-cleared c p l e = let w = weight (c .ir) (2 ^ (23 - p)) e in rw e (omega ar
 other-ir : {v : ℕ} (m n : Machine) (r : ℕ) → Entered v (machine (m .cells) (withIR (m .control) r)) n → Entered v m n
 unfolding withIR
 other-ir m n r e =
-    record {
-      number = e .number;
-      stored = e .stored;
-      cells = e .cells;
-      ic = e .ic;
-      monitor = e .monitor;
-      disabled = e .disabled;
-      pending = e .pending;
-      reset = e .reset;
-      im = e .im;
-      pr = e .pr;
-      ex = e .ex;
-    }
+    record { number = e .number; returns = e .returns; ic = e .ic; state = e .state; cells = e .cells; kept = (e .kept .0, record { im = e .kept .1 .im; pr = e .kept .1 .pr; ex = e .kept .1 .ex }) }
 
 line-taken : (m : Machine) → Valid m → lineOf (m .control) < 24
     → LineTaken (lineOf (m .control)) m (enter (lineOf (m .control) * 2) (m .cells) (lineCleared (m .control) (lineOf (m .control))))

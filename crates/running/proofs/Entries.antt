@@ -40,16 +40,11 @@ unfolding enter entryRecord
 entered v n l h =
     record {
       number = first-word (n .cells) v _ (omega (arith, h .least)) l;
-      stored = second-word (n .cells) v (n .control .ic) (omega (arith, h .least)) (h .widths .ic);
-      cells = same-cells (n .cells) v _;
+      returns = second-word (n .cells) v (n .control .ic) (omega (arith, h .least)) (h .widths .ic);
       ic = ap (λ w. w / 2 * 2) (same-cells (n .cells) v _ .words 6 (λ e. omega arith) (λ e. omega arith));
-      monitor = refl;
-      disabled = refl;
-      pending = refl;
-      reset = refl;
-      im = refl;
-      pr = refl;
-      ex = refl;
+      state = record { monitor = refl; disabled = refl; pending = refl };
+      cells = same-cells (n .cells) v _;
+      kept = (refl, record { im = refl; pr = refl; ex = refl });
     }
 
 abbrev pub Stored : Kind → Machine → Type 0

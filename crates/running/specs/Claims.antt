@@ -6,6 +6,7 @@ use mathlib.Core.Logic.{_≢_}
 use mathlib.Core.Bool.{Bool, true, false, cond}
 use mathlib.Core.List.{List}
 use lib.ListN.{length}
+use Rattle.machine.specs.declared.Control.{Control}
 use Rattle.machine.specs.declared.Fault.{Fault}
 use Rattle.machine.specs.declared.Kind.{Kind}
 use Rattle.machine.specs.declared.Kind.the-variants.{Exception, Line}
@@ -27,34 +28,34 @@ pub record SameCells (a b : ℕ) (s t : List ℕ) : Type 0 where
   pub keys : (i : ℕ) → key t i ≡ key s i
   pub words : (i : ℕ) → i ≢ a / 2 → i ≢ b / 2 → word t i ≡ word s i
 
+-- IM, PR and EX stay
+pub record SameRegisters (c d : Control) : Type 0 where
+  pub im : d .im ≡ c .im
+  pub pr : d .pr ≡ c .pr
+  pub ex : d .ex ≡ c .ex
+
+-- monitor mode, interrupts disabled, no pending modification
+pub record InMonitor (c : Control) : Type 0 where
+  pub monitor : c .monitor ≡ true
+  pub disabled : c .enabled ≡ false
+  pub pending : c .pending ≡ 0
+
 -- ---- Panel keys
 
 -- reset stores IC in word 10, clears the pending modification and sets the reset state
 pub record ResetPressed (m n : Machine) : Type 0 where
   pub stored : word (n .cells) (returnAddress / 2) ≡ m .control .ic
+  pub state : (n .control .reset ≡ true) × InMonitor (n .control)
   pub cells : SameCells returnAddress returnAddress (m .cells) (n .cells)
-  pub pending : n .control .pending ≡ 0
-  pub reset : n .control .reset ≡ true
-  pub monitor : n .control .monitor ≡ true
-  pub disabled : n .control .enabled ≡ false
-  pub ic : n .control .ic ≡ m .control .ic
-  pub ir : n .control .ir ≡ m .control .ir
-  pub im : n .control .im ≡ m .control .im
-  pub pr : n .control .pr ≡ m .control .pr
-  pub ex : n .control .ex ≡ m .control .ex
+  pub kept : (n .control .ic ≡ m .control .ic) × (n .control .ir ≡ m .control .ir) × SameRegisters (m .control) (n .control)
 
 -- start takes IC from word 14, bit 23 cleared, and leaves the reset state
 pub record StartPressed (m n : Machine) : Type 0 where
   pub ic : n .control .ic ≡ word (m .cells) (startAddress / 2) / 2 * 2
-  pub reset : n .control .reset ≡ false
+  pub state : n .control .reset ≡ false
   pub cells : n .cells ≡ m .cells
-  pub ir : n .control .ir ≡ m .control .ir
-  pub im : n .control .im ≡ m .control .im
-  pub pending : n .control .pending ≡ m .control .pending
-  pub pr : n .control .pr ≡ m .control .pr
-  pub ex : n .control .ex ≡ m .control .ex
-  pub monitor : n .control .monitor ≡ m .control .monitor
-  pub enabled : n .control .enabled ≡ m .control .enabled
+  pub kept : (n .control .ir ≡ m .control .ir) × (n .control .pending ≡ m .control .pending) × SameRegisters (m .control) (n .control)
+  pub modes : (n .control .monitor ≡ m .control .monitor) × (n .control .enabled ≡ m .control .enabled)
 
 -- the reset key outside the reset state does that, and in the reset state it changes nothing
 abbrev pub ResetKey : Type 0
@@ -93,16 +94,11 @@ KeyNumbers =
 -- the number v in word 8, IC in word 10, IC taken from word 12, bit 23 cleared, monitor mode, interrupts disabled, no pending modification
 pub record Entered (v : ℕ) (m n : Machine) : Type 0 where
   pub number : word (n .cells) (interruptNumber / 2) ≡ v
-  pub stored : word (n .cells) (returnAddress / 2) ≡ m .control .ic
-  pub cells : SameCells interruptNumber returnAddress (m .cells) (n .cells)
+  pub returns : word (n .cells) (returnAddress / 2) ≡ m .control .ic
   pub ic : n .control .ic ≡ word (m .cells) (interruptionProgram / 2) / 2 * 2
-  pub monitor : n .control .monitor ≡ true
-  pub disabled : n .control .enabled ≡ false
-  pub pending : n .control .pending ≡ 0
-  pub reset : n .control .reset ≡ m .control .reset
-  pub im : n .control .im ≡ m .control .im
-  pub pr : n .control .pr ≡ m .control .pr
-  pub ex : n .control .ex ≡ m .control .ex
+  pub state : InMonitor (n .control)
+  pub cells : SameCells interruptNumber returnAddress (m .cells) (n .cells)
+  pub kept : (n .control .reset ≡ m .control .reset) × SameRegisters (m .control) (n .control)
 
 -- line p, looked at where interrupts are enabled and nothing is pending, is the left-most raised one with mask bit one; only its bit is cleared; the
 -- number stored is twice its position
