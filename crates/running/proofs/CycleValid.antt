@@ -35,7 +35,7 @@ valid-entry n a l h = valid-control n _ (omega (arith, h .widths)) (in-monitor _
 
 valid-enter : (v : ℕ) (n : Machine) → Valid n → Valid (enter v (n .cells) (n .control))
 unfolding enter
-valid-enter v n h = valid-entry (machine _ (n .control)) _ (word-lt _ _) (valid-put 5 _ (machine _ (n .control)) (valid-put 4 v n h))
+valid-enter v n h = valid-entry (machine _ (n .control)) _ (word-lt _ _) (valid-put _ _ (machine _ (n .control)) (valid-put _ v n h))
 
 live-record : (n : Machine) (b : Bool) → Live n → Live (machine (n .cells) (fetchRecord (n .control) b))
 unfolding fetchRecord sum24
