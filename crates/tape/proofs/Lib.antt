@@ -4,5 +4,3 @@ pub mod Cells
 pub mod Hunted
 pub mod Loaded
 pub mod Tapes
-pub mod Grammars
-pub mod Claims

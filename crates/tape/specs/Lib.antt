@@ -4,6 +4,4 @@ pub mod Judge
 pub mod Load
 pub mod Remark
 pub mod Steps
-pub mod Grammar
-pub mod Claims
 pub mod Examples

@@ -10,11 +10,11 @@ use Rattle.machine.specs.declared.Control.{Control}
 use Rattle.machine.specs.declared.Refusal.{Refusal}
 use Rattle.machine.specs.declared.Verdict.the-variants.{Accepted, Rejected}
 use Rattle.acceptance.specs.Accept.{cellsFit, judgeMachine}
 use Rattle.tape.specs.Layout.{kindOf, payloadOf, recordsOf, firstCell, cellCount}
 use Rattle.tape.specs.Judge.{judgeTape}
 use Rattle.tape.specs.Load.{judgeLoad, loading}
 use Rattle.tape.specs.Remark.{judgeReading}
-use Rattle.tape.specs.Grammar.{TapeFor}
+use Rattle.tape_promises.specs.Grammar.{TapeFor}
 
 -- `accepted-tapes`: a tape is accepted exactly if it is a row of good records with one control record and the end
 abbrev pub AcceptedTapes : Type 0

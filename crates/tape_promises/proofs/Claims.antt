@@ -13,18 +13,18 @@ use Rattle.machine.specs.declared.Refusal.the-variants.{CellValue, StoreSize}
 use Rattle.machine.specs.declared.Verdict.{Verdict}
 use Rattle.machine.specs.declared.Verdict.the-variants.{Accepted, Rejected}
 use Rattle.acceptance.specs.Accept.{sizeFits, cellsFit, controlFits, judgeStore, judgeMachine}
 use Rattle.tape.specs.Layout.{kindOf, payloadOf, restOf, recordsOf, firstOf, firstCell, cellCount, blockCells, flagsOf, lastByte, controlOf}
 use Rattle.tape.specs.Judge.{controlGood, judgeTape}
 use Rattle.tape.specs.Load.{pasted, stored, loadRecord, loadRecords, loadedControl, judgeThen, judgeLoad, loadedBy, loading}
 use Rattle.tape.specs.Remark.{judgeReading}
 use Rattle.tape.specs.Steps.{RecordFits, RecordsFit}
-use Rattle.tape.specs.Claims.{AcceptedTapes, Unnamed, KeptCells, KeptSize, KeptAll, LoadedMachines, SameVerdict}
+use Rattle.tape_promises.specs.Claims.{AcceptedTapes, Unnamed, KeptCells, KeptSize, KeptAll, LoadedMachines, SameVerdict}
 use Rattle.tape.proofs.Records.{length-rest}
 use Rattle.tape.proofs.Cells.{length-cells}
 use Rattle.tape.proofs.Judged.{passed, refused, both, Good, Judged, last, more, judged-back, records-fit, block-payload, control-there}
 use Rattle.tape.proofs.Loaded.{load-more, load-none}
 use Rattle.tape.proofs.Tapes.{tape-judged, both-accepted, load-judged}
-use Rattle.tape.proofs.Grammars.{grammar, judged-of}
+use Rattle.tape_promises.proofs.Grammars.{grammar, judged-of}
 
 pub accepted-tapes : AcceptedTapes
 unfolding judgeTape

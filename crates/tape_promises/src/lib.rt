@@ -1,0 +1,1 @@
+// What is promised of load tapes. No code: see specs/.
