@@ -101,11 +101,11 @@ ending : (t : List ℕ) (rest : Verdict) (b : Bool) → eqb (kindOf t) 3 ≡ b
 ending t rest true e h = inl (eqb-true (kindOf t) 3 e, leb-true (length t) (6 + lengthOf t) (passed _ _ _ h .0))
 ending t rest false e h = inr (eqb-false (kindOf t) 3 e, h)
 
-no-records : (n : ℕ) (after : Bool) (t : List ℕ) → length t < 6 → judgeRecords n after (recordsOf t) ≡ Rejected TapeEnds
+pub no-records : (n : ℕ) (after : Bool) (t : List ℕ) → length t < 6 → judgeRecords n after (recordsOf t) ≡ Rejected TapeEnds
 unfolding judgeRecords
 no-records n after t h = rw (records-none t h)
 
-a-record : (n : ℕ) (after : Bool) (t : List ℕ) → 6 ≤ length t
+pub a-record : (n : ℕ) (after : Bool) (t : List ℕ) → 6 ≤ length t
     → judgeRecords n after (recordsOf t) ≡ judgeAfter (judgeRecord n after t) t (judgeRecords n (eqb (kindOf t) 2) (recordsOf (restOf t)))
 unfolding judgeRecords
 a-record n after t h = rw (records-more t h)

@@ -51,18 +51,21 @@ block-of {n} {after} {t} g e =
     let s = length-payload t (g .whole) in
     record { fours = rw s (l .0); some = rw s (l .1); place = p .0; cells = p .1 }
 
-control-of : {n : ℕ} {after : Bool} {t : List ℕ} → Good n after t → kindOf t ≡ 2 → ControlPayload (payloadOf t)
+pub control-payload-of : (p : List ℕ) → length p ≡ 20 → controlGood p ≡ true → ControlPayload p
 unfolding controlGood
+control-payload-of p l e =
+    let a = both (leb (flagsOf p) 7) _ e in
+    let b = both (eqb (lastByte p) 0) _ (a .1) in
+    record { bytes = l; flags = leb-true (flagsOf p) 7 (a .0); zero = eqb-true (lastByte p) 0 (b .0); fields = b .1 }
+
+pub control-good : (p : List ℕ) → ControlPayload p → controlGood p ≡ true
+unfolding controlGood
+control-good p c = rw (le-leb (flagsOf p) 7 (c .flags), eq-eqb (lastByte p) 0 (c .zero), c .fields)
+
+control-of : {n : ℕ} {after : Bool} {t : List ℕ} → Good n after t → kindOf t ≡ 2 → ControlPayload (payloadOf t)
 control-of {n} {after} {t} g e =
-    let c = control-payload n (payloadOf t) (rw e at (g .payload)) in
-    let a = both (leb (flagsOf (payloadOf t)) 7) _ c in
-    let b = both (eqb (lastByte (payloadOf t)) 0) _ (a .1) in
-    record {
-      bytes = length-payload t (g .whole) ∙ control-length (lengthOf t) (rw e at (g .size));
-      flags = leb-true (flagsOf (payloadOf t)) 7 (a .0);
-      zero = eqb-true (lastByte (payloadOf t)) 0 (b .0);
-      fields = b .1;
-    }
+    control-payload-of (payloadOf t) (length-payload t (g .whole) ∙ control-length (lengthOf t) (rw e at (g .size)))
+    (control-payload n (payloadOf t) (rw e at (g .payload)))
 
 -- only the end stands after the control record
 end-of : {n : ℕ} {after : Bool} {t : List ℕ} → Judged n after t → after ≡ true → Header 3 0 t
@@ -102,12 +105,12 @@ grammar {n} {after} {t} (more g k j) a = subst (Records n) (sym (parts t)) (at (
 -- ---- from the grammar to the judge
 
 -- how the judge reads a record and what is left
-record Reads (k : ℕ) (p t w : List ℕ) : Type 0 where
-  size : lengthOf w ≡ length p
-  kind : kindOf w ≡ k
-  payload : payloadOf w ≡ p
-  rest : restOf w ≡ t
-  whole : 6 + lengthOf w ≤ length w
+pub record Reads (k : ℕ) (p t w : List ℕ) : Type 0 where
+  pub size : lengthOf w ≡ length p
+  pub kind : kindOf w ≡ k
+  pub payload : payloadOf w ≡ p
+  pub rest : restOf w ≡ t
+  pub whole : 6 + lengthOf w ≤ length w
 
 module _ (h x : List ℕ) (b : length h ≡ 6) where
   byte : (i : ℕ) → i < 6 → getD (h ++ x) i 0 ≡ getD h i 0
@@ -124,7 +127,7 @@ module _ (h x : List ℕ) (b : length h ≡ 6) where
   payload-at : drop 6 (h ++ x) ≡ x
   payload-at = rw b at (drop-append-seam h x)
 
-reads : (h p t : List ℕ) (k : ℕ) → Header k (length p) h → Reads k p t (h ++ (p ++ t))
+pub reads : (h p t : List ℕ) (k : ℕ) → Header k (length p) h → Reads k p t (h ++ (p ++ t))
 unfolding payloadOf restOf
 reads h p t k d =
     let b = d .bytes in
@@ -160,10 +163,8 @@ unfolding kindKnown inOrder lengthFits judgePayload
 good-remark n p t w r h = good-of n 4 false p t w r refl refl (le-leb (length p) 255 h) refl
 
 good-control : (n : ℕ) (p t w : List ℕ) → Reads 2 p t w → ControlPayload p → Good n false w
-unfolding kindKnown inOrder lengthFits judgePayload judgeControl controlGood
-good-control n p t w r c =
-    good-of n 2 false p t w r refl refl (eq-eqb (length p) 20 (c .bytes))
-    (rw (le-leb (flagsOf p) 7 (c .flags), eq-eqb (lastByte p) 0 (c .zero), c .fields))
+unfolding kindKnown inOrder lengthFits judgePayload judgeControl
+good-control n p t w r c = good-of n 2 false p t w r refl refl (eq-eqb (length p) 20 (c .bytes)) (rw (control-good p c))
 
 judged-end : (n : ℕ) (e : List ℕ) → Header 3 0 e → Judged n true e
 unfolding lengthOf kindOf kindKnown inOrder lengthFits judgePayload

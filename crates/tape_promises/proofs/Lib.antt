@@ -1,2 +1,4 @@
 pub mod Grammars
+pub mod Contents
 pub mod Claims
+pub mod Numbers

@@ -1,3 +1,5 @@
--- Load tapes: the grammar, and what is proved of them besides the contracts.
+-- Load tapes: their grammar, what they hold, their refusals, and what is proved of these besides the contracts.
 pub mod Grammar
+pub mod Contents
+pub mod Numbers
 pub mod Claims

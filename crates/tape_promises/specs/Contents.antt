@@ -1,0 +1,79 @@
+-- What the records of a tape hold, by their layout (document 01, "Load tape"). Neither judge nor loader is named here.
+-- Assumes nothing.
+use Prim.Native.Nat.{ℕ, _+_, _-_, _*_, _≤_, _<_}
+use mathlib.Core.Path.{_≡_}
+use mathlib.Core.Bool.{Bool, true, false}
+use mathlib.Core.List.{List, [], _∷_, _++_}
+use lib.ListN.{length, getD}
+use Rattle.machine.specs.declared.Control.{Control}
+use Rattle.tape.specs.declared.Span.{Span}
+use Rattle.tape.specs.Layout.{numberAt, firstCell, blockCells, flagsOf}
+use Rattle.tape_promises.specs.Grammar.{Records, block-then, remark-then, control-then-end}
+
+-- ---- kind 1, block: first cell index, then the cells
+
+pub record Block : Type 0 where
+  pub first : ℕ
+  pub cells : List ℕ
+
+unfoldable pub blocksOf : {n : ℕ} {t : List ℕ} → Records n t → List Block
+blocksOf (block-then h p t d b r) = record { first = firstCell p; cells = blockCells p } ∷ blocksOf r
+blocksOf (remark-then h p t d l r) = blocksOf r
+blocksOf (control-then-end h p e d c x) = []
+
+-- the block b names the cell i
+pub record Names (b : Block) (i : ℕ) : Type 0 where
+  pub from : b .first ≤ i
+  pub below : i < b .first + length (b .cells)
+
+-- no block names the cell i
+unfoldable pub Unnamed : List Block → ℕ → Type 0
+Unnamed [] i = Unit {0}
+Unnamed (b ∷ bs) i = (Names b i → ⊥) × Unnamed bs i
+
+-- later blocks overwrite; cells no block names keep what they held: the cell i, which held `held`, holds x after the blocks
+pub data Holds (i held : ℕ) : List Block → ℕ → Type 0 where
+  written : (bs : List Block) (b : Block) (later : List Block) → Names b i → Unnamed later i → Holds i held (bs ++ (b ∷ later)) (getD (b .cells) (i - b .first) 0)
+  kept : (bs : List Block) → Unnamed bs i → Holds i held bs held
+
+-- ---- kind 2, control
+
+unfoldable pub controlPayload : {n : ℕ} {t : List ℕ} → Records n t → List ℕ
+controlPayload (block-then h p t d b r) = controlPayload r
+controlPayload (remark-then h p t d l r) = controlPayload r
+controlPayload (control-then-end h p e d c x) = p
+
+abbrev pub oneIf : Bool → ℕ
+oneIf true = 1
+oneIf false = 0
+
+-- IC, IR, IM, pending (4 each), PR, EX, flags (1 each: values 1 monitor, 2 enabled, 4 reset, summed)
+pub record ControlFields (p : List ℕ) (c : Control) : Type 0 where
+  pub ic : c .ic ≡ numberAt p 0
+  pub ir : c .ir ≡ numberAt p 4
+  pub im : c .im ≡ numberAt p 8
+  pub pending : c .pending ≡ numberAt p 12
+  pub pr : c .pr ≡ getD p 16 0
+  pub ex : c .ex ≡ getD p 17 0
+  pub flags : flagsOf p ≡ 1 * oneIf (c .monitor) + 2 * oneIf (c .enabled) + 4 * oneIf (c .reset)
+
+-- ---- kind 4, remark
+
+-- where its text starts on the tape, and the text
+pub data Remark : Type 0 where
+  none : Remark
+  remark : ℕ → List ℕ → Remark
+
+-- the first remark of the records from the byte `at` of the tape on
+unfoldable pub firstRemark : {n : ℕ} {t : List ℕ} → ℕ → Records n t → Remark
+firstRemark at (block-then h p t d b r) = firstRemark (at + 6 + length p) r
+firstRemark at (remark-then h p t d l r) = remark (at + 6) p
+firstRemark at (control-then-end h p e d c x) = none
+
+abbrev pub spanOf : Remark → Span
+spanOf none = record { start = 0; end = 0; found = false; refusal = 0 }
+spanOf (remark start text) = record { start = start; end = start + length text; found = true; refusal = 0 }
+
+abbrev pub textOf : Remark → List ℕ
+textOf none = []
+textOf (remark start text) = text

@@ -1,0 +1,67 @@
+-- The number of a tape's refusal (document 01, "Who can be refused, for what"), apart from the judge.
+-- Assumes nothing.
+use Prim.Native.Nat.{ℕ, _+_, _%_, _≤_, _<_}
+use mathlib.Core.Path.{_≡_}
+use mathlib.Core.Bool.{Bool, true, false}
+use mathlib.Core.List.{List}
+use mathlib.Core.Logic.{_⊎_}
+use lib.ListN.{length}
+use lib.Dec.{eqb}
+use Rattle.acceptance.specs.Accept.{cellsFit}
+use Rattle.tape.specs.Layout.{lengthOf, kindOf, payloadOf, restOf, firstCell, cellCount, blockCells}
+use Rattle.tape_promises.specs.Grammar.{ControlPayload}
+
+-- a test in a row of tests: k is its number where its condition is met, else what the tests after it say
+pub data Test (number : ℕ) (Condition : Type 0) (Others : ℕ → Type 0) (k : ℕ) : Type 0 where
+  met : Condition → k ≡ number → Test number Condition Others k
+  unmet : (Condition → ⊥) → Others k → Test number Condition Others k
+
+-- no number: every test is passed
+abbrev pub passed : ℕ → Type 0
+passed k = ⊥
+
+-- not the end after the control record, or an end with no control record
+abbrev pub OutOfOrder : Bool → ℕ → Type 0
+OutOfOrder true kind = kind ≡ 3 → ⊥
+OutOfOrder false kind = kind ≡ 3
+
+pub record LengthFor (kind l : ℕ) : Type 0 where
+  pub block : kind ≡ 1 → (l % 4 ≡ 0) × (8 ≤ l)
+  pub control : kind ≡ 2 → l ≡ 20
+  pub end : kind ≡ 3 → l ≡ 0
+  pub remark : kind ≡ 4 → l ≤ 255
+
+-- the tests of one record, which stands at the start of t; `after`: the record before it was the control record
+abbrev pub RecordRefused : ℕ → Bool → List ℕ → ℕ → Type 0
+RecordRefused n after t =
+    Test 6 (length t < 6)
+    (Test 7 ((kindOf t < 1) ⊎ (4 < kindOf t))
+    (Test 11 (OutOfOrder after (kindOf t))
+    (Test 8 (LengthFor (kindOf t) (lengthOf t) → ⊥)
+    (Test 6 (length t < 6 + lengthOf t)
+    (Test 9 ((kindOf t ≡ 1) × (n < firstCell (payloadOf t) + cellCount (payloadOf t)))
+    (Test 10 ((kindOf t ≡ 1) × (cellsFit (blockCells (payloadOf t)) ≡ false))
+    (Test 3 ((kindOf t ≡ 2) × (ControlPayload (payloadOf t) → ⊥))
+    (Test 11 ((kindOf t ≡ 3) × (6 + lengthOf t < length t)) passed))))))))
+
+-- record by record from the left: good ones, none of them the end, then one that is refused
+pub data RecordsRefused (n : ℕ) : Bool → List ℕ → ℕ → Type 0 where
+  this-one : {after : Bool} {t : List ℕ} {k : ℕ} → RecordRefused n after t k → RecordsRefused n after t k
+  later-one : {after : Bool} {t : List ℕ} {k : ℕ} → ((j : ℕ) → RecordRefused n after t j → ⊥) → (kindOf t ≡ 3 → ⊥)
+      → RecordsRefused n (eqb (kindOf t) 2) (restOf t) k → RecordsRefused n after t k
+
+-- 12 (over 65,536 bytes) first
+abbrev pub TapeRefused : ℕ → List ℕ → ℕ → Type 0
+TapeRefused n t = Test 12 (65536 < length t) (RecordsRefused n false t)
+
+-- fewer than 8 or more than 8,388,608 cells
+abbrev pub SizeRefused : ℕ → Type 0
+SizeRefused n = (n < 8) ⊎ (8388608 < n)
+
+-- loading tests 1 and 2, then the tape
+abbrev pub LoadRefused : List ℕ → List ℕ → ℕ → Type 0
+LoadRefused s t = Test 1 (SizeRefused (length s)) (Test 2 (cellsFit s ≡ false) (TapeRefused (length s) t))
+
+-- the reader of the first remark has a number of cells only
+abbrev pub ReadingRefused : ℕ → List ℕ → ℕ → Type 0
+ReadingRefused n t = Test 1 (SizeRefused n) (TapeRefused n t)
