@@ -1,12 +1,13 @@
 // The public calls. None asks anything of its caller; each contract sets the result, every cell and the control record for all inputs.
 ghost use mathlib.Core.Path.{_≡_};
+ghost use denote.Ref.{ptr};
 ghost use Rattle.definition.specs.Machine.{machine};
 ghost use Rattle.running.specs.Bridge.{ranOf, pressedOf};
 ghost use Rattle.running.specs.Run.{runMachine};
 ghost use Rattle.running.specs.Keys.{resetKey, startRecord, startKey, pressingReset, pressingStart};
 ghost use Rattle.running.specs.Promises.{KeepsProtected, Counts};
 ghost use Rattle.tape.specs.Load.{loading};
-ghost use Rattle.tape.specs.Remark.{remarkSpan, remarkText};
+ghost use Rattle.tape.specs.Remark.{remarkSpan, remarkText, placeFrom};
 use machine::Answer;
 use machine::Control;
 use machine::Run;
@@ -122,6 +123,7 @@ pub fn load(store: &mut [u32], control: Control, tape: &[u8]) -> State
 // The first remark's text as a part of the tape, where the tape loads into that many cells; empty for none and for a refusal.
 pub fn remark<'a>(tape: &'a [u8], cells: usize, found: &mut bool, refusal: &mut u32) -> &'a [u8]
     ensures text { λ r. ⌜ now r ≡ remarkText (now (tape .entry)) cells ⌝ }
+    ensures place { λ r. ⌜ ptr r ≡ placeFrom (ptr (tape .entry)) (remarkSpan (now (tape .entry)) cells .start) ⌝ }
     ensures flag { λ _. ⌜ now (found .exit) ≡ remarkSpan (now (tape .entry)) cells .found ⌝ }
     ensures number { λ _. ⌜ now (refusal .exit) ≡ remarkSpan (now (tape .entry)) cells .refusal ⌝ }
 {

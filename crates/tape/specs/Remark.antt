@@ -40,3 +40,7 @@ textBy Accepted m = payloadOf m
 
 unfoldable pub remarkText : List ℕ → ℕ → List ℕ
 remarkText t n = textBy (judgeReading t n) (firstOf 4 (recordsOf t))
+
+-- the place in memory (block, offset) so many bytes after a place
+abbrev pub placeFrom : ℕ × ℕ → ℕ → ℕ × ℕ
+placeFrom p n = (p .0, n + p .1)

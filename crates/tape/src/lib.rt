@@ -4,12 +4,13 @@ ghost use mathlib.Core.Path.{_≡_};
 ghost use mathlib.Core.Bool.{true, false};
 ghost use Prim.Native.Nat.{_+_, _*_, _≤_, _<_};
 ghost use lib.ListN.{length};
+ghost use denote.Ref.{ptr};
 ghost use Rattle.machine.specs.declared.Verdict.the-variants.{Accepted};
 ghost use Rattle.acceptance.specs.Accept.{cellsFit};
 ghost use Rattle.tape.specs.Layout.{numberAt, lengthOf, kindOf, payloadOf, recordsOf, firstOf, firstCell, cellCount, cellsFrom, blockCells, controlOf};
 ghost use Rattle.tape.specs.Judge.{kindKnown, inOrder, lengthFits, judgeBlock, controlGood, judgeControl, judgePayload, judgeRecord, judgeRecords, judgeTape};
 ghost use Rattle.tape.specs.Load.{pasted, stored, loadRecord, loadRecords, loadedControl, judgeLoad, loading};
-ghost use Rattle.tape.specs.Remark.{judgeReading, spanBy, remarkSpan, remarkText};
+ghost use Rattle.tape.specs.Remark.{judgeReading, spanBy, remarkSpan, remarkText, placeFrom};
 ghost use Rattle.tape.specs.Steps.{stepAfter, stepOf, lookFor, RecordFits, RecordsFit, ControlThere, Whole};
 use machine::Control;
 use machine::Refusal;
@@ -465,9 +466,10 @@ pub fn remark_span(tape: &[u8], cells: usize) -> Span
     }
 }
 
-// The first remark's text as a part of the tape; empty for none, and on a refusal.
+// The first remark's text as a part of the tape, so many bytes from the tape's first; empty for none, and on a refusal.
 pub fn remark<'a>(tape: &'a [u8], cells: usize, found: &mut bool, refusal: &mut u32) -> &'a [u8]
     ensures text { λ r. ⌜ now r ≡ remarkText (now (tape .entry)) cells ⌝ }
+    ensures place { λ r. ⌜ ptr r ≡ placeFrom (ptr (tape .entry)) (remarkSpan (now (tape .entry)) cells .start) ⌝ }
     ensures flag { λ _. ⌜ now (found .exit) ≡ remarkSpan (now (tape .entry)) cells .found ⌝ }
     ensures number { λ _. ⌜ now (refusal .exit) ≡ remarkSpan (now (tape .entry)) cells .refusal ⌝ }
 {

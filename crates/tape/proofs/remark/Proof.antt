@@ -22,7 +22,7 @@ part-result-end : tie.Need-part-result-end
 part-result-end c = omega (arith, part c .end)
 
 returns : tie.Need-returns
-returns c = (part (c .before) .text, (rw (c .before .remark-span .ensures), rw (c .before .remark-span .ensures)))
+returns c = (part (c .before) .text, (rw (c .before .remark-span .ensures), (rw (c .before .remark-span .ensures), rw (c .before .remark-span .ensures))))
 
 pub remark-spec : {M : Type 1} → statement M
 remark-spec =
