@@ -1,7 +1,7 @@
 -- Document 01's tape of 32 bytes: a control record and the end.
 -- Assumes nothing.
 use Prim.Native.Nat.{ℕ}
-use mathlib.Core.Bool.{true}
+use mathlib.Core.Bool.{Bool, true, false}
 use mathlib.Core.Path.{_≡_, refl}
 use mathlib.Core.List.{List, [], _∷_, _++_}
 use lib.ListN.{take, replicate}
@@ -15,13 +15,30 @@ use Rattle.tape.specs.Judge.{kindKnown, inOrder, lengthFits, judgeBlock,
 use Rattle.tape.specs.Load.{pasted, stored, loadRecord, loadRecords, loadedControl, judgeLoad, loading}
 use Rattle.tape.specs.Remark.{judgeReading, noSpan, remarkSpan}
 
+-- with flags f
+abbrev pub flagsTape : ℕ → List ℕ
+flagsTape f = 20 ∷ 0 ∷ 0 ∷ 0 ∷ 2 ∷ 0 ∷ replicate 16 0 ++ (128 ∷ 0 ∷ f ∷ 0 ∷ 0 ∷ 0 ∷ 0 ∷ 0 ∷ 3 ∷ 0 ∷ [])
+
 abbrev pub scopeTape : List ℕ
-scopeTape = 20 ∷ 0 ∷ 0 ∷ 0 ∷ 2 ∷ 0 ∷ replicate 16 0 ++ (128 ∷ 0 ∷ 5 ∷ 0 ∷ 0 ∷ 0 ∷ 0 ∷ 0 ∷ 3 ∷ 0 ∷ [])
+scopeTape = flagsTape 5
 
 -- IC, IR, IM, pending and EX zero, PR 128, monitor mode, the reset state; the cells keep what they held; there is no remark
 pub paper-tape : (c : Control) → (loading scopeTape (replicate 8 7) c ≡ record { cells = replicate 8 7; state = record { control = freshRecord; verdict = Accepted } }) × (remarkSpan scopeTape 8 ≡ noSpan 0)
 unfolding lengthOf kindOf payloadOf restOf recordsWithin recordsOf firstOf controlOf kindKnown inOrder lengthFits controlGood judgeControl judgePayload judgeRecord judgeRecords judgeTape sizeFits cellsFit stateFits controlFits judgeStore loadRecord loadRecords loadedControl judgeLoad loading judgeReading remarkSpan
 paper-tape c = (refl, refl)
+
+-- values 1 monitor, 2 enabled, 4 reset, each told apart
+abbrev pub modesAfter : ℕ → Control → Bool × Bool × Bool
+modesAfter f c = let d = loading (flagsTape f) (replicate 8 7) c .state .control in (d .monitor, d .enabled, d .reset)
+
+pub flags-apart : (c : Control)
+    → (modesAfter 0 c ≡ (false, false, false))
+    × (modesAfter 1 c ≡ (true, false, false))
+    × (modesAfter 2 c ≡ (false, true, false))
+    × (modesAfter 3 c ≡ (true, true, false))
+    × (modesAfter 5 c ≡ (true, false, true))
+unfolding lengthOf kindOf payloadOf restOf recordsWithin recordsOf firstOf controlOf kindKnown inOrder lengthFits controlGood judgeControl judgePayload judgeRecord judgeRecords judgeTape sizeFits cellsFit stateFits controlFits judgeStore loadRecord loadRecords loadedControl judgeLoad loading judgeReading remarkSpan
+flags-apart c = (refl, refl, refl, refl, refl)
 
 -- a block of two cells at the cell 6, a remark of one byte, then document 01's tape
 abbrev pub blockTape : List ℕ
