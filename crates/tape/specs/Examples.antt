@@ -15,6 +15,11 @@ use Rattle.tape.specs.Judge.{kindKnown, inOrder, lengthFits, judgeBlock,
 use Rattle.tape.specs.Load.{pasted, stored, loadRecord, loadRecords, loadedControl, judgeLoad, loading}
 use Rattle.tape.specs.Remark.{judgeReading, noSpan, remarkSpan}
 
+-- opens what a tape is read by
+unfoldable pub opened : ℕ
+unfolding lengthOf kindOf payloadOf restOf recordsWithin recordsOf firstOf controlOf kindKnown inOrder lengthFits controlGood judgeControl judgePayload judgeRecord judgeRecords judgeTape sizeFits cellsFit stateFits controlFits judgeStore loadRecord loadRecords loadedControl judgeLoad loading judgeReading remarkSpan cellsFrom blockCells judgeBlock pasted stored
+opened = 0
+
 -- with flags f
 abbrev pub flagsTape : ℕ → List ℕ
 flagsTape f = 20 ∷ 0 ∷ 0 ∷ 0 ∷ 2 ∷ 0 ∷ replicate 16 0 ++ (128 ∷ 0 ∷ f ∷ 0 ∷ 0 ∷ 0 ∷ 0 ∷ 0 ∷ 3 ∷ 0 ∷ [])
@@ -24,7 +29,7 @@ scopeTape = flagsTape 5
 
 -- IC, IR, IM, pending and EX zero, PR 128, monitor mode, the reset state; the cells keep what they held; there is no remark
 pub paper-tape : (c : Control) → (loading scopeTape (replicate 8 7) c ≡ record { cells = replicate 8 7; state = record { control = freshRecord; verdict = Accepted } }) × (remarkSpan scopeTape 8 ≡ noSpan 0)
-unfolding lengthOf kindOf payloadOf restOf recordsWithin recordsOf firstOf controlOf kindKnown inOrder lengthFits controlGood judgeControl judgePayload judgeRecord judgeRecords judgeTape sizeFits cellsFit stateFits controlFits judgeStore loadRecord loadRecords loadedControl judgeLoad loading judgeReading remarkSpan
+unfolding opened
 paper-tape c = (refl, refl)
 
 -- values 1 monitor, 2 enabled, 4 reset, each told apart
@@ -37,7 +42,7 @@ pub flags-apart : (c : Control)
     × (modesAfter 2 c ≡ (false, true, false))
     × (modesAfter 3 c ≡ (true, true, false))
     × (modesAfter 5 c ≡ (true, false, true))
-unfolding lengthOf kindOf payloadOf restOf recordsWithin recordsOf firstOf controlOf kindKnown inOrder lengthFits controlGood judgeControl judgePayload judgeRecord judgeRecords judgeTape sizeFits cellsFit stateFits controlFits judgeStore loadRecord loadRecords loadedControl judgeLoad loading judgeReading remarkSpan
+unfolding opened
 flags-apart c = (refl, refl, refl, refl, refl)
 
 -- a block of two cells at the cell 6, a remark of one byte, then document 01's tape
@@ -45,7 +50,7 @@ abbrev pub blockTape : List ℕ
 blockTape = 12 ∷ 0 ∷ 0 ∷ 0 ∷ 1 ∷ 0 ∷ 6 ∷ 0 ∷ 0 ∷ 0 ∷ 5 ∷ 0 ∷ 0 ∷ 0 ∷ 6 ∷ 0 ∷ 0 ∷ 7 ∷ 1 ∷ 0 ∷ 0 ∷ 0 ∷ 4 ∷ 0 ∷ 65 ∷ scopeTape
 
 pub block-tape : (c : Control) → (loading blockTape (replicate 8 7) c .cells ≡ replicate 6 7 ++ (5 ∷ 117440518 ∷ [])) × (remarkSpan blockTape 8 ≡ record { start = 24; end = 25; found = true; refusal = 0 })
-unfolding lengthOf kindOf payloadOf restOf recordsWithin recordsOf firstOf controlOf kindKnown inOrder lengthFits controlGood judgeControl judgePayload judgeRecord judgeRecords judgeTape sizeFits cellsFit stateFits controlFits judgeStore loadRecord loadRecords loadedControl judgeLoad loading judgeReading remarkSpan cellsFrom blockCells judgeBlock pasted stored
+unfolding opened
 block-tape c = (refl, refl)
 
 -- a block of one cell and a control record, no two bytes of a number alike
@@ -64,14 +69,14 @@ pub bytes-tape : (c : Control)
         verdict = Accepted;
       };
     }
-unfolding lengthOf kindOf payloadOf restOf recordsWithin recordsOf firstOf controlOf kindKnown inOrder lengthFits controlGood judgeControl judgePayload judgeRecord judgeRecords judgeTape sizeFits cellsFit stateFits controlFits judgeStore loadRecord loadRecords loadedControl judgeLoad loading judgeReading remarkSpan cellsFrom blockCells judgeBlock pasted stored
+unfolding opened
 bytes-tape c = refl
 
 -- an unknown kind after the control record is 7, another record there is 11
 pub unknown-kind : judgeTape 8 (take 26 scopeTape ++ (0 ∷ 0 ∷ 0 ∷ 0 ∷ 9 ∷ 0 ∷ [])) ≡ Rejected RecordKind
-unfolding lengthOf kindOf payloadOf restOf recordsWithin recordsOf controlOf kindKnown inOrder lengthFits controlGood judgeControl judgePayload judgeRecord judgeRecords judgeTape stateFits controlFits
+unfolding opened
 unknown-kind = refl
 
 pub second-control : judgeTape 8 (take 26 scopeTape ++ scopeTape) ≡ Rejected RecordOrder
-unfolding lengthOf kindOf payloadOf restOf recordsWithin recordsOf controlOf kindKnown inOrder lengthFits controlGood judgeControl judgePayload judgeRecord judgeRecords judgeTape stateFits controlFits
+unfolding opened
 second-control = refl

@@ -466,7 +466,7 @@ pub fn remark_span(tape: &[u8], cells: usize) -> Span
     }
 }
 
-// The first remark's text as a part of the tape, so many bytes from the tape's first; empty for none, and on a refusal.
+// The first remark's text as a part of the tape, from the span's start on; empty for none, and on a refusal.
 pub fn remark<'a>(tape: &'a [u8], cells: usize, found: &mut bool, refusal: &mut u32) -> &'a [u8]
     ensures text { λ r. ⌜ now r ≡ remarkText (now (tape .entry)) cells ⌝ }
     ensures place { λ r. ⌜ ptr r ≡ placeFrom (ptr (tape .entry)) (remarkSpan (now (tape .entry)) cells .start) ⌝ }
