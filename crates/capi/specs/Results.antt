@@ -1,19 +1,70 @@
--- The numbers and structs that the C calls hand back (host/include/rc4000.h).
+-- The C calls (host/include/rc4000.h): the control record as it crosses, its tests, and what each call hands back.
 -- Assumes nothing.
 use Prim.Native.Nat.{ℕ}
+use mathlib.Core.Bool.{Bool, false, cond}
+use mathlib.Core.List.{List}
+use lib.Dec.{eqb, ltb}
+use Rattle.machine.specs.declared.Control.{Control}
 use Rattle.machine.specs.declared.Kind.the-variants.{Exception, Line}
 use Rattle.machine.specs.declared.Outcome.the-variants.{Reset, Interrupted, Spent}
+use Rattle.machine.specs.declared.Refusal.{Refusal}
+use Rattle.machine.specs.declared.Refusal.the-variants.{ControlField}
+use Rattle.machine.specs.declared.Verdict.{Verdict}
+use Rattle.machine.specs.declared.Verdict.the-variants.{Accepted, Rejected}
 use Rattle.machine.specs.declared.Answer.{Answer}
 use Rattle.machine.specs.declared.Answer.the-variants.{Refused, Ended}
-use Rattle.machine.specs.Answers.{refusalNumber, kindNumber, verdictNumber}
-use Rattle.definition.specs.Machine.{Machine}
+use Rattle.machine.specs.Answers.{refusalNumber, kindNumber}
+use Rattle.acceptance.specs.Accept.{judgeStore}
+use Rattle.definition.specs.Machine.{Machine, machine}
 use Rattle.running.specs.Runs.{Ran}
-use Rattle.running.specs.Keys.{Pressed}
-use Rattle.tape.specs.Load.{Loaded}
+use Rattle.running.specs.Run.{runMachine}
+use Rattle.running.specs.Keys.{Pressed, pressingReset, pressingStart}
+use Rattle.tape.specs.Load.{judgeThen, Loaded, loading}
 use Rattle.tape.specs.declared.Span.{Span}
+use Rattle.capi.specs.declared.ControlRecord.{ControlRecord}
 use Rattle.capi.specs.declared.RunResult.{RunResult}
 use Rattle.capi.specs.declared.StateResult.{StateResult}
 use Rattle.capi.specs.declared.TextResult.{TextResult}
+
+-- ---- the control record: a flag crosses as a byte
+
+-- a flag byte is 0 or 1
+abbrev pub flagFits : ℕ → Bool
+flagFits b = ltb b 2
+
+unfoldable pub flagsFit : ControlRecord → Bool
+flagsFit r = cond (flagFits (r .monitor)) (cond (flagFits (r .enabled)) (flagFits (r .reset)) false) false
+
+-- 1 is yes
+abbrev pub flagOf : ℕ → Bool
+flagOf b = eqb b 1
+
+unfoldable pub flagByte : Bool → ℕ
+flagByte f = cond f 1 0
+
+-- the control record that bytes stand for
+unfoldable pub controlIn : ControlRecord → Control
+controlIn r =
+    record { ic = r .ic; ir = r .ir; im = r .im; pending = r .pending; pr = r .pr; ex = r .ex; monitor = flagOf (r .monitor); enabled = flagOf (r .enabled); reset = flagOf (r .reset) }
+
+-- the bytes of a control record
+unfoldable pub recordOf : Control → ControlRecord
+recordOf c =
+    record { ic = c .ic; ir = c .ir; im = c .im; pending = c .pending; pr = c .pr; ex = c .ex; monitor = flagByte (c .monitor); enabled = flagByte (c .enabled); reset = flagByte (c .reset) }
+
+-- a flag byte over 1 is refused with 3, after the store's 1 and 2, before all other tests
+unfoldable pub judgeFlags : List ℕ → ControlRecord → Verdict
+judgeFlags s r = cond (flagsFit r) Accepted (judgeThen (judgeStore s) (Rejected ControlField))
+
+-- ---- what a call hands back
+
+-- the store beside the struct
+pub record Returned (R : Type 0) : Type 0 where
+  pub result : R
+  pub cells : List ℕ
+
+abbrev pub returned : {R : Type 0} → R → List ℕ → Returned R
+returned r s = record { result = r; cells = s }
 
 -- 0 refused, 1 spent, 2 reset, 3 interrupted by an exception, 4 interrupted by a line
 abbrev pub outcomeCode : Answer → ℕ
@@ -30,15 +81,51 @@ outcomeNumber (Ended Spent) = 0
 outcomeNumber (Ended Reset) = 0
 outcomeNumber (Ended (Interrupted k)) = kindNumber k
 
-unfoldable pub resultOf : Ran Machine → RunResult
-resultOf x =
-    record { control = x .machine .control; outcome = outcomeCode (x .answer); number = outcomeNumber (x .answer); executed = x .executed; entries = x .entries }
+-- a refused run: the record r as given, counts zero
+abbrev pub refusedRun : Refusal → ControlRecord → RunResult
+refusedRun q r = record { control = r; outcome = 0; number = refusalNumber q; executed = 0; entries = 0 }
 
-unfoldable pub keyResult : Pressed → StateResult
-keyResult x = record { control = x .machine .control; refusal = verdictNumber (x .verdict) }
+-- a refused key or tape: the record r as given
+abbrev pub refusedState : Refusal → ControlRecord → StateResult
+refusedState q r = record { control = r; refusal = refusalNumber q }
 
-unfoldable pub loadResult : Loaded → StateResult
-loadResult x = record { control = x .state .control; refusal = verdictNumber (x .state .verdict) }
+-- a run's answer, counts and control record
+abbrev pub resultBy : Answer → ControlRecord → Control → ℕ → ℕ → RunResult
+resultBy (Refused q) r c d e = refusedRun q r
+resultBy (Ended o) r c d e = record { control = recordOf c; outcome = outcomeCode (Ended o); number = outcomeNumber (Ended o); executed = d; entries = e }
 
+abbrev pub stateBy : Verdict → ControlRecord → Control → StateResult
+stateBy (Rejected q) r c = refusedState q r
+stateBy Accepted r c = record { control = recordOf c; refusal = 0 }
+
+-- ---- the calls
+
+-- 3 for a flag byte, then the run
+abbrev pub runBy : Verdict → ControlRecord → List ℕ → Ran Machine → Returned RunResult
+runBy (Rejected q) r s x = returned (refusedRun q r) s
+runBy Accepted r s x = returned (resultBy (x .answer) r (x .machine .control) (x .executed) (x .entries)) (x .machine .cells)
+
+unfoldable pub runCall : ℕ → ℕ → List ℕ → ControlRecord → Returned RunResult
+runCall l b s r = runBy (judgeFlags s r) r s (runMachine l b (machine s (controlIn r)))
+
+-- 3 for a flag byte, then the key
+abbrev pub keyBy : Verdict → ControlRecord → List ℕ → Pressed → Returned StateResult
+keyBy (Rejected q) r s x = returned (refusedState q r) s
+keyBy Accepted r s x = returned (stateBy (x .verdict) r (x .machine .control)) (x .machine .cells)
+
+unfoldable pub resetCall : List ℕ → ControlRecord → Returned StateResult
+resetCall s r = keyBy (judgeFlags s r) r s (pressingReset s (controlIn r))
+
+unfoldable pub startCall : List ℕ → ControlRecord → Returned StateResult
+startCall s r = keyBy (judgeFlags s r) r s (pressingStart s (controlIn r))
+
+-- the given record is not tested (docs/DECISIONS.md E4)
+abbrev pub loadBy : ControlRecord → Loaded → Returned StateResult
+loadBy r x = returned (stateBy (x .state .verdict) r (x .state .control)) (x .cells)
+
+unfoldable pub loadCall : List ℕ → List ℕ → ControlRecord → Returned StateResult
+loadCall t s r = loadBy r (loading t s (controlIn r))
+
+-- the first remark's place in the tape
 unfoldable pub textOf : Span → TextResult
 textOf x = record { refusal = x .refusal; found = x .found; start = x .start; end = x .end }

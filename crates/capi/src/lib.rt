@@ -1,21 +1,33 @@
-// The C calls (host/include/rc4000.h). Enums do not cross: an outcome is two numbers, a verdict is one.
+// The C calls (host/include/rc4000.h). Enums do not cross: an outcome is two numbers, a verdict is one. A flag crosses as a byte, which is tested.
 ghost use mathlib.Core.Path.{_≡_};
-ghost use Rattle.definition.specs.Machine.{machine};
-ghost use Rattle.running.specs.Run.{runMachine};
-ghost use Rattle.running.specs.Keys.{pressingReset, pressingStart};
-ghost use Rattle.tape.specs.Load.{loading};
 ghost use Rattle.tape.specs.Remark.{remarkSpan};
-ghost use Rattle.machine.specs.Answers.{verdictNumber};
-ghost use Rattle.capi.specs.Results.{outcomeCode, outcomeNumber, resultOf, keyResult, loadResult, textOf};
+ghost use Rattle.capi.specs.Results.{flagByte, flagsFit, controlIn, recordOf, judgeFlags, outcomeCode, outcomeNumber, resultBy, refusedRun, stateBy, refusedState, returned, runCall, resetCall, startCall, loadCall, textOf};
 use machine::Answer;
 use machine::Control;
 use machine::Kind;
 use machine::Outcome;
+use machine::Refusal;
+use machine::Run;
+use machine::State;
 use machine::Verdict;
+
+// The control record as it crosses.
+#[repr(C)]
+pub struct ControlRecord {
+    pub ic: u32,
+    pub ir: u32,
+    pub im: u32,
+    pub pending: u32,
+    pub pr: u32,
+    pub ex: u32,
+    pub monitor: u8,
+    pub enabled: u8,
+    pub reset: u8,
+}
 
 #[repr(C)]
 pub struct RunResult {
-    pub control: Control,
+    pub control: ControlRecord,
     pub outcome: u32,
     pub number: u32,
     pub executed: u32,
@@ -24,7 +36,7 @@ pub struct RunResult {
 
 #[repr(C)]
 pub struct StateResult {
-    pub control: Control,
+    pub control: ControlRecord,
     pub refusal: u32,
 }
 
@@ -36,6 +48,73 @@ pub struct TextResult {
     pub end: usize,
 }
 
+fn flag_byte(f: bool) -> u8
+    ensures { λ r. ⌜ r ≡ flagByte f ⌝ }
+{
+    if f { 1 } else { 0 }
+}
+
+impl ControlRecord {
+    // Each flag byte is 0 or 1.
+    fn flags_fit(self) -> bool
+        ensures { λ r. ⌜ r ≡ flagsFit self ⌝ }
+    {
+        if self.monitor < 2 {
+            if self.enabled < 2 {
+                return self.reset < 2;
+            }
+            return false;
+        }
+        false
+    }
+
+    fn control(self) -> Control
+        ensures { λ r. ⌜ r ≡ controlIn self ⌝ }
+    {
+        Control {
+            ic: self.ic,
+            ir: self.ir,
+            im: self.im,
+            pending: self.pending,
+            pr: self.pr,
+            ex: self.ex,
+            monitor: self.monitor == 1,
+            enabled: self.enabled == 1,
+            reset: self.reset == 1,
+        }
+    }
+
+    fn of(c: Control) -> ControlRecord
+        ensures { λ r. ⌜ r ≡ recordOf c ⌝ }
+    {
+        ControlRecord {
+            ic: c.ic,
+            ir: c.ir,
+            im: c.im,
+            pending: c.pending,
+            pr: c.pr,
+            ex: c.ex,
+            monitor: flag_byte(c.monitor),
+            enabled: flag_byte(c.enabled),
+            reset: flag_byte(c.reset),
+        }
+    }
+}
+
+// 3 for a flag byte over 1, where the store has nothing that is refused with 1 or 2. The store is looked at only then.
+fn judge_flags(store: &[u32], r: ControlRecord) -> Verdict
+    ensures { λ v. ⌜ v ≡ judgeFlags (now (store .entry)) r ⌝ }
+{
+    if r.flags_fit() {
+        return Verdict::Accepted;
+    }
+    let v = acceptance::judge_store(store);
+    match v {
+        Verdict::Accepted => Verdict::Rejected(Refusal::ControlField),
+        Verdict::Rejected(q) => Verdict::Rejected(q),
+    }
+}
+
 fn interruption_code(k: Kind) -> u32
     ensures { λ r. ⌜ r ≡ outcomeCode (Answer.Ended (Outcome.Interrupted k)) ⌝ }
 {
@@ -45,108 +124,145 @@ fn interruption_code(k: Kind) -> u32
     }
 }
 
-fn outcome_code(a: Answer) -> u32
-    ensures { λ r. ⌜ r ≡ outcomeCode a ⌝ }
+fn outcome_code(o: Outcome) -> u32
+    ensures { λ r. ⌜ r ≡ outcomeCode (Answer.Ended o) ⌝ }
 {
-    match a {
-        Answer::Refused(_) => 0,
-        Answer::Ended(o) => match o {
-            Outcome::Spent => 1,
-            Outcome::Reset => 2,
-            Outcome::Interrupted(k) => interruption_code(k),
-        },
+    match o {
+        Outcome::Spent => 1,
+        Outcome::Reset => 2,
+        Outcome::Interrupted(k) => interruption_code(k),
     }
 }
 
-fn outcome_number(a: Answer) -> u32
-    ensures { λ r. ⌜ r ≡ outcomeNumber a ⌝ }
+fn outcome_number(o: Outcome) -> u32
+    ensures { λ r. ⌜ r ≡ outcomeNumber (Answer.Ended o) ⌝ }
 {
-    match a {
-        Answer::Refused(q) => q.number(),
-        Answer::Ended(o) => match o {
-            Outcome::Spent => 0,
-            Outcome::Reset => 0,
-            Outcome::Interrupted(k) => k.number(),
-        },
+    match o {
+        Outcome::Spent => 0,
+        Outcome::Reset => 0,
+        Outcome::Interrupted(k) => k.number(),
     }
 }
 
-fn verdict_number(v: Verdict) -> u32
-    ensures { λ r. ⌜ r ≡ verdictNumber v ⌝ }
+fn refused_run(q: Refusal, r: ControlRecord) -> RunResult
+    ensures { λ x. ⌜ x ≡ refusedRun q r ⌝ }
 {
+    let n = q.number();
+    RunResult {
+        control: r,
+        outcome: 0,
+        number: n,
+        executed: 0,
+        entries: 0,
+    }
+}
+
+fn run_result(x: Run, r: ControlRecord) -> RunResult
+    ensures { λ y. ⌜ y ≡ resultBy (x .answer) r (x .control) (x .executed) (x .entries) ⌝ }
+{
+    let a = x.answer;
+    match a {
+        Answer::Refused(q) => refused_run(q, r),
+        Answer::Ended(o) => {
+            let c = x.control;
+            let d = ControlRecord::of(c);
+            let k = outcome_code(o);
+            let n = outcome_number(o);
+            RunResult {
+                control: d,
+                outcome: k,
+                number: n,
+                executed: x.executed,
+                entries: x.entries,
+            }
+        }
+    }
+}
+
+fn refused_state(q: Refusal, r: ControlRecord) -> StateResult
+    ensures { λ x. ⌜ x ≡ refusedState q r ⌝ }
+{
+    let n = q.number();
+    StateResult {
+        control: r,
+        refusal: n,
+    }
+}
+
+fn state_result(x: State, r: ControlRecord) -> StateResult
+    ensures { λ y. ⌜ y ≡ stateBy (x .verdict) r (x .control) ⌝ }
+{
+    let v = x.verdict;
     match v {
-        Verdict::Accepted => 0,
-        Verdict::Rejected(q) => q.number(),
+        Verdict::Rejected(q) => refused_state(q, r),
+        Verdict::Accepted => {
+            let c = x.control;
+            let d = ControlRecord::of(c);
+            StateResult {
+                control: d,
+                refusal: 0,
+            }
+        }
     }
 }
 
 #[no_mangle]
 pub extern "C" fn rc4000_run(
     store: &mut [u32],
-    control: Control,
+    control: ControlRecord,
     lines: u32,
     budget: u32,
 ) -> RunResult
-    ensures result { λ r. ⌜ r ≡ resultOf (runMachine lines budget (machine (now (store .entry)) control)) ⌝ }
-    ensures cells { λ _. ⌜ now (store .exit) ≡ runMachine lines budget (machine (now (store .entry)) control) .machine .cells ⌝ }
+    ensures { λ r. ⌜ returned r (now (store .exit)) ≡ runCall lines budget (now (store .entry)) control ⌝ }
 {
-    let x = rc4000::run(store, control, lines, budget);
-    let c = x.control;
-    let a = x.answer;
-    let o = outcome_code(a);
-    let n = outcome_number(a);
-    RunResult {
-        control: c,
-        outcome: o,
-        number: n,
-        executed: x.executed,
-        entries: x.entries,
+    let v = judge_flags(store, control);
+    match v {
+        Verdict::Accepted => {
+            let c = control.control();
+            let x = rc4000::run(store, c, lines, budget);
+            run_result(x, control)
+        }
+        Verdict::Rejected(q) => refused_run(q, control),
     }
 }
 
 #[no_mangle]
-pub extern "C" fn rc4000_press_reset(store: &mut [u32], control: Control) -> StateResult
-    ensures result { λ r. ⌜ r ≡ keyResult (pressingReset (now (store .entry)) control) ⌝ }
-    ensures cells { λ _. ⌜ now (store .exit) ≡ pressingReset (now (store .entry)) control .machine .cells ⌝ }
+pub extern "C" fn rc4000_press_reset(store: &mut [u32], control: ControlRecord) -> StateResult
+    ensures { λ r. ⌜ returned r (now (store .exit)) ≡ resetCall (now (store .entry)) control ⌝ }
 {
-    let x = rc4000::press_reset(store, control);
-    let c = x.control;
-    let v = x.verdict;
-    let n = verdict_number(v);
-    StateResult {
-        control: c,
-        refusal: n,
+    let v = judge_flags(store, control);
+    match v {
+        Verdict::Accepted => {
+            let c = control.control();
+            let x = rc4000::press_reset(store, c);
+            state_result(x, control)
+        }
+        Verdict::Rejected(q) => refused_state(q, control),
     }
 }
 
 #[no_mangle]
-pub extern "C" fn rc4000_press_start(store: &mut [u32], control: Control) -> StateResult
-    ensures result { λ r. ⌜ r ≡ keyResult (pressingStart (now (store .entry)) control) ⌝ }
-    ensures cells { λ _. ⌜ now (store .exit) ≡ pressingStart (now (store .entry)) control .machine .cells ⌝ }
+pub extern "C" fn rc4000_press_start(store: &mut [u32], control: ControlRecord) -> StateResult
+    ensures { λ r. ⌜ returned r (now (store .exit)) ≡ startCall (now (store .entry)) control ⌝ }
 {
-    let x = rc4000::press_start(store, control);
-    let c = x.control;
-    let v = x.verdict;
-    let n = verdict_number(v);
-    StateResult {
-        control: c,
-        refusal: n,
+    let v = judge_flags(store, control);
+    match v {
+        Verdict::Accepted => {
+            let c = control.control();
+            let x = rc4000::press_start(store, c);
+            state_result(x, control)
+        }
+        Verdict::Rejected(q) => refused_state(q, control),
     }
 }
 
 #[no_mangle]
-pub extern "C" fn rc4000_load(store: &mut [u32], control: Control, tape: &[u8]) -> StateResult
-    ensures result { λ r. ⌜ r ≡ loadResult (loading (now (tape .entry)) (now (store .entry)) control) ⌝ }
-    ensures cells { λ _. ⌜ now (store .exit) ≡ loading (now (tape .entry)) (now (store .entry)) control .cells ⌝ }
+pub extern "C" fn rc4000_load(store: &mut [u32], control: ControlRecord, tape: &[u8]) -> StateResult
+    ensures { λ r. ⌜ returned r (now (store .exit)) ≡ loadCall (now (tape .entry)) (now (store .entry)) control ⌝ }
 {
-    let x = rc4000::load(store, control, tape);
-    let c = x.control;
-    let v = x.verdict;
-    let n = verdict_number(v);
-    StateResult {
-        control: c,
-        refusal: n,
-    }
+    let c = control.control();
+    let x = rc4000::load(store, c, tape);
+    state_result(x, control)
 }
 
 #[no_mangle]

@@ -1,20 +1,24 @@
-use Rattle.capi.specs.Results.{loadResult}
+use Rattle.capi.specs.Results.{loadCall}
 use borrow.Author.Needs.{needs}
 use Rattle.capi.proofs.rc4000_load.Statement.{statement}
 use Rattle.capi.proofs.rc4000_load.Tie as tie
 
+control-requires : tie.Need-control-requires
+control-requires c κs = search needs
+
 load-requires : tie.Need-load-requires
 load-requires c κs = search needs
 
-verdict-number-requires : tie.Need-verdict-number-requires
-verdict-number-requires c κs = search needs
+state-result-requires : tie.Need-state-result-requires
+state-result-requires c κs = search needs
 
 same-length : tie.Need-same-length
 same-length c = search needs
 
 returns : tie.Need-returns
-unfolding loadResult
-returns c = (rw (← (c .before .before .before .before .load .ensures .0), ← (c .verdict-number .ensures)), search needs)
+unfolding loadCall
+returns c = let e = c .before .before .before .load .ensures in rw (← (c .before .before .before .before .before .control .ensures), ← (e .0), ← (e .1), ← (c .state-result .ensures))
 
 pub rc4000-load-spec : {M : Type 1} → statement M
-rc4000-load-spec = tie.close (tie.spec load-requires verdict-number-requires same-length returns)
+rc4000-load-spec =
+    tie.close (tie.spec control-requires load-requires state-result-requires same-length returns)

@@ -1,22 +1,55 @@
-use mathlib.Core.Path.{ap}
-use Rattle.capi.specs.Results.{keyResult}
+use Rattle.capi.specs.Results.{resetCall}
 use borrow.Author.Needs.{needs}
 use Rattle.capi.proofs.rc4000_press_reset.Statement.{statement}
 use Rattle.capi.proofs.rc4000_press_reset.Tie as tie
 
+judge-flags-requires : tie.Need-judge-flags-requires
+judge-flags-requires c κs = search needs
+
+enum-told : tie.Need-enum-told
+enum-told c = search needs
+
+control-requires : tie.Need-control-requires
+control-requires c κs = search needs
+
 press-reset-requires : tie.Need-press-reset-requires
 press-reset-requires c κs = search needs
 
-verdict-number-requires : tie.Need-verdict-number-requires
-verdict-number-requires c κs = search needs
+state-result-requires : tie.Need-state-result-requires
+state-result-requires c κs = search needs
+
+enum-known-v : tie.Need-enum-known-v
+enum-known-v c = search needs
+
+refused-state-requires : tie.Need-refused-state-requires
+refused-state-requires c κs = search needs
 
 same-length : tie.Need-same-length
 same-length c = search needs
 
 returns : tie.Need-returns
-unfolding keyResult
-returns c = let e = c .before .before .before .before .press-reset .ensures in (rw (← e, ← (c .verdict-number .ensures)), ap (λ z. z .machine .cells) e)
+unfolding resetCall
+returns c = rw (← (c .before .before .before .before .before .before .before .before .judge-flags .ensures), c .before .before .before .before .before .before .enum-told .given .1, ← (c .before .before .before .before .before .control .ensures), ← (c .before .before .before .press-reset .ensures), ← (c .state-result .ensures))
+
+same-length-2 : tie.Need-same-length-2
+same-length-2 c = search needs
+
+returns-2 : tie.Need-returns-2
+unfolding resetCall
+returns-2 c = rw (← (c .before .before .before .before .judge-flags .ensures), c .before .before .v .given .1, ← (c .refused-state .ensures))
 
 pub rc4000-press-reset-spec : {M : Type 1} → statement M
 rc4000-press-reset-spec =
-    tie.close (tie.spec press-reset-requires verdict-number-requires same-length returns)
+    tie.close
+    (tie.spec
+    judge-flags-requires
+    enum-told
+    control-requires
+    press-reset-requires
+    state-result-requires
+    enum-known-v
+    refused-state-requires
+    same-length
+    returns
+    same-length-2
+    returns-2)

@@ -1,26 +1,55 @@
-use mathlib.Core.Path.{ap}
-use Rattle.capi.specs.Results.{resultOf}
+use Rattle.capi.specs.Results.{runCall}
 use borrow.Author.Needs.{needs}
 use Rattle.capi.proofs.rc4000_run.Statement.{statement}
 use Rattle.capi.proofs.rc4000_run.Tie as tie
 
+judge-flags-requires : tie.Need-judge-flags-requires
+judge-flags-requires c κs = search needs
+
+enum-told : tie.Need-enum-told
+enum-told c = search needs
+
+control-requires : tie.Need-control-requires
+control-requires c κs = search needs
+
 run-requires : tie.Need-run-requires
 run-requires c κs = search needs
 
-outcome-code-requires : tie.Need-outcome-code-requires
-outcome-code-requires c κs = search needs
+run-result-requires : tie.Need-run-result-requires
+run-result-requires c κs = search needs
 
-outcome-number-requires : tie.Need-outcome-number-requires
-outcome-number-requires c κs = search needs
+enum-known-v : tie.Need-enum-known-v
+enum-known-v c = search needs
+
+refused-run-requires : tie.Need-refused-run-requires
+refused-run-requires c κs = search needs
 
 same-length : tie.Need-same-length
 same-length c = search needs
 
 returns : tie.Need-returns
-unfolding resultOf
-returns c = let e = c .before .before .before .before .before .run .ensures .0 in (rw (← e, ← (c .before .outcome-code .ensures), ← (c .outcome-number .ensures)), ap (λ z. z .machine .cells) e)
+unfolding runCall
+returns c = rw (← (c .before .before .before .before .before .before .before .before .judge-flags .ensures), c .before .before .before .before .before .before .enum-told .given .1, ← (c .before .before .before .before .before .control .ensures), ← (c .before .before .before .run .ensures .0), ← (c .run-result .ensures))
+
+same-length-2 : tie.Need-same-length-2
+same-length-2 c = search needs
+
+returns-2 : tie.Need-returns-2
+unfolding runCall
+returns-2 c = rw (← (c .before .before .before .before .judge-flags .ensures), c .before .before .v .given .1, ← (c .refused-run .ensures))
 
 pub rc4000-run-spec : {M : Type 1} → statement M
 rc4000-run-spec =
     tie.close
-    (tie.spec run-requires outcome-code-requires outcome-number-requires same-length returns)
+    (tie.spec
+    judge-flags-requires
+    enum-told
+    control-requires
+    run-requires
+    run-result-requires
+    enum-known-v
+    refused-run-requires
+    same-length
+    returns
+    same-length-2
+    returns-2)
