@@ -197,9 +197,9 @@ fn state_result(x: State, r: ControlRecord) -> StateResult
         Verdict::Rejected(q) => refused_state(q, r),
         Verdict::Accepted => {
             let c = x.control;
-            let d = ControlRecord::of(c);
+            let after = ControlRecord::of(c);
             StateResult {
-                control: d,
+                control: after,
                 refusal: 0,
             }
         }
