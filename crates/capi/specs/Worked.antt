@@ -1,0 +1,55 @@
+-- Worked C calls, by computation: the flag bytes and their refusals.
+-- Assumes nothing.
+use Prim.Native.Nat.{ℕ}
+use mathlib.Core.Path.{_≡_, refl}
+use mathlib.Core.Bool.{Bool, true, false}
+use mathlib.Core.List.{[]}
+use lib.ListN.{replicate}
+use Rattle.machine.specs.declared.Control.{Control}
+use Rattle.machine.specs.declared.Refusal.the-variants.{StoreSize, CellValue, ControlField, TapeEnds}
+use Rattle.acceptance.specs.Accept.{sizeFits, cellFits, cellsFit, judgeStore}
+use Rattle.tape.specs.Layout.{recordsWithin, recordsOf}
+use Rattle.tape.specs.Judge.{judgeRecords, judgeTape}
+use Rattle.tape.specs.Load.{judgeLoad, loading}
+use Rattle.capi.specs.declared.ControlRecord.{ControlRecord}
+use Rattle.capi.specs.Results.{flagsFit, flagByte, controlIn, recordOf, judgeFlags, refusedRun, refusedState, returned, runCall, resetCall, startCall, loadCall}
+
+-- a record with the flag bytes m, e and r, and the record with such flags
+abbrev bytes : ℕ → ℕ → ℕ → ControlRecord
+bytes m e r = record { ic = 14; ir = 3; im = 5; pending = 7; pr = 129; ex = 2; monitor = m; enabled = e; reset = r }
+
+abbrev flags : Bool → Bool → Bool → Control
+flags m e r = record { ic = 14; ir = 3; im = 5; pending = 7; pr = 129; ex = 2; monitor = m; enabled = e; reset = r }
+
+-- each flag has its own byte
+monitor-byte : (controlIn (bytes 1 0 0) ≡ flags true false false) × (recordOf (flags true false false) ≡ bytes 1 0 0)
+unfolding controlIn recordOf flagByte
+monitor-byte = (refl, refl)
+
+enabled-byte : (controlIn (bytes 0 1 0) ≡ flags false true false) × (recordOf (flags false true false) ≡ bytes 0 1 0)
+unfolding controlIn recordOf flagByte
+enabled-byte = (refl, refl)
+
+-- a flag byte of 2 and 7 cells: 1
+size-first : runCall 0 0 (replicate 7 0) (bytes 2 0 0) ≡ returned (refusedRun StoreSize (bytes 2 0 0)) (replicate 7 0)
+unfolding runCall judgeFlags flagsFit judgeStore sizeFits
+size-first = refl
+
+-- and a cell of 134,217,728: 2
+cell-next : resetCall (replicate 8 134217728) (bytes 0 255 0) ≡ returned (refusedState CellValue (bytes 0 255 0)) (replicate 8 134217728)
+unfolding resetCall judgeFlags flagsFit judgeStore sizeFits cellsFit cellFits
+cell-next = refl
+
+-- else 3, before lines and budget, and the record comes back as given
+then-flags : runCall 16777216 65536 (replicate 8 0) (bytes 0 1 2) ≡ returned (refusedRun ControlField (bytes 0 1 2)) (replicate 8 0)
+unfolding runCall judgeFlags flagsFit judgeStore sizeFits cellsFit cellFits
+then-flags = refl
+
+start-flags : startCall (replicate 8 0) (bytes 1 2 1) ≡ returned (refusedState ControlField (bytes 1 2 1)) (replicate 8 0)
+unfolding startCall judgeFlags flagsFit judgeStore sizeFits cellsFit cellFits
+start-flags = refl
+
+-- a load does not test the given record: an empty tape is refused with 6
+load-untested : loadCall [] (replicate 8 0) (bytes 2 2 2) ≡ returned (refusedState TapeEnds (bytes 2 2 2)) (replicate 8 0)
+unfolding loadCall loading judgeLoad judgeTape judgeRecords recordsOf recordsWithin judgeStore sizeFits cellsFit cellFits
+load-untested = refl
