@@ -9,7 +9,7 @@
  *
  * What the caller has to see to, since C does not check it: store points to
  * `cells` cells and tape to `length` bytes; the two do not overlap, and nothing
- * else changes them during the call; a bool is 0 or 1. Nothing else is asked.
+ * else changes them during the call. Nothing else is asked.
  *
  * Link with libcapi.a. */
 #ifndef RC4000_H
@@ -23,7 +23,8 @@
 extern "C" {
 #endif
 
-/* The control record. Reset state implies monitor mode and disabled. */
+/* The control record. Reset state implies monitor mode and disabled. A flag is
+ * 0 (no) or 1 (yes). */
 typedef struct {
     uint32_t ic;      /* instruction counter, 24 bits */
     uint32_t ir;      /* interrupt register, 24 bits, bit 0 left-most */
@@ -31,9 +32,9 @@ typedef struct {
     uint32_t pending; /* modification left by AM, 24 bits, 0 if none */
     uint32_t pr;      /* protection register, 128 to 255 */
     uint32_t ex;      /* exception register, 0 to 7 */
-    bool monitor;     /* monitor mode */
-    bool enabled;     /* interrupts enabled */
-    bool reset;       /* reset state */
+    uint8_t monitor;  /* monitor mode */
+    uint8_t enabled;  /* interrupts enabled */
+    uint8_t reset;    /* reset state */
 } rc4000_control;
 
 /* rc4000_result.outcome */
@@ -50,7 +51,7 @@ enum {
 enum {
     RC4000_STORE_SIZE = 1,    /* fewer than 8 or more than 8388608 cells */
     RC4000_CELL_VALUE = 2,    /* a cell of 134217728 or more */
-    RC4000_CONTROL_FIELD = 3, /* a control field outside its width or the rule of reset */
+    RC4000_CONTROL_FIELD = 3, /* a control field outside its width (a flag over 1) or the rule of reset */
     RC4000_LINES = 4,         /* lines with bit 0, 1 or 2 set, or over 24 bits */
     RC4000_BUDGET = 5,        /* a budget over 65535 */
     RC4000_TAPE_ENDS = 6,     /* the tape ends inside a record, or with no end record */

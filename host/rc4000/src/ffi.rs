@@ -2,9 +2,23 @@
 
 use crate::types::{Control, Kind, Outcome, Refusal, Report};
 
+/// The control record as it crosses: a flag is a byte, 0 or 1.
+#[repr(C)]
+pub struct ControlRecord {
+    pub ic: u32,
+    pub ir: u32,
+    pub im: u32,
+    pub pending: u32,
+    pub pr: u32,
+    pub ex: u32,
+    pub monitor: u8,
+    pub enabled: u8,
+    pub reset: u8,
+}
+
 #[repr(C)]
 pub struct RunResult {
-    pub control: Control,
+    pub control: ControlRecord,
     pub outcome: u32,
     pub number: u32,
     pub executed: u32,
@@ -13,7 +27,7 @@ pub struct RunResult {
 
 #[repr(C)]
 pub struct State {
-    pub control: Control,
+    pub control: ControlRecord,
     pub refusal: u32,
 }
 
@@ -29,16 +43,16 @@ extern "C" {
     pub fn rc4000_run(
         store: *mut u32,
         cells: usize,
-        control: Control,
+        control: ControlRecord,
         lines: u32,
         budget: u32,
     ) -> RunResult;
-    pub fn rc4000_press_reset(store: *mut u32, cells: usize, control: Control) -> State;
-    pub fn rc4000_press_start(store: *mut u32, cells: usize, control: Control) -> State;
+    pub fn rc4000_press_reset(store: *mut u32, cells: usize, control: ControlRecord) -> State;
+    pub fn rc4000_press_start(store: *mut u32, cells: usize, control: ControlRecord) -> State;
     pub fn rc4000_load(
         store: *mut u32,
         cells: usize,
-        control: Control,
+        control: ControlRecord,
         tape: *const u8,
         length: usize,
     ) -> State;
@@ -47,9 +61,10 @@ extern "C" {
 
 const _: () = {
     use std::mem::{offset_of, size_of};
-    assert!(size_of::<Control>() == 28);
-    assert!(offset_of!(Control, monitor) == 24);
-    assert!(offset_of!(Control, reset) == 26);
+    assert!(size_of::<ControlRecord>() == 28);
+    assert!(offset_of!(ControlRecord, monitor) == 24);
+    assert!(offset_of!(ControlRecord, enabled) == 25);
+    assert!(offset_of!(ControlRecord, reset) == 26);
     assert!(size_of::<RunResult>() == 44);
     assert!(offset_of!(RunResult, outcome) == 28);
     assert!(size_of::<State>() == 32);
@@ -59,8 +74,51 @@ const _: () = {
     assert!(offset_of!(Text, start) == 8);
 };
 
+impl From<Control> for ControlRecord {
+    fn from(control: Control) -> Self {
+        ControlRecord {
+            ic: control.ic,
+            ir: control.ir,
+            im: control.im,
+            pending: control.pending,
+            pr: control.pr,
+            ex: control.ex,
+            monitor: control.monitor.into(),
+            enabled: control.enabled.into(),
+            reset: control.reset.into(),
+        }
+    }
+}
+
+impl From<ControlRecord> for Control {
+    fn from(record: ControlRecord) -> Self {
+        Control {
+            ic: record.ic,
+            ir: record.ir,
+            im: record.im,
+            pending: record.pending,
+            pr: record.pr,
+            ex: record.ex,
+            monitor: flag(record.monitor),
+            enabled: flag(record.enabled),
+            reset: flag(record.reset),
+        }
+    }
+}
+
+/// The flag of a byte that the library gave.
+fn flag(byte: u8) -> bool {
+    match byte {
+        0 => false,
+        1 => true,
+        other => unreachable!("flag {other}"),
+    }
+}
+
 impl RunResult {
-    pub fn report(&self) -> Result<Report, Refusal> {
+    /// The control record goes to the caller's.
+    pub fn hand_back(self, control: &mut Control) -> Result<Report, Refusal> {
+        *control = self.control.into();
         let outcome = match self.outcome {
             0 => {
                 assert!(self.executed == 0 && self.entries == 0);
@@ -81,7 +139,9 @@ impl RunResult {
 }
 
 impl State {
-    pub fn done(&self) -> Result<(), Refusal> {
+    /// The control record goes to the caller's.
+    pub fn hand_back(self, control: &mut Control) -> Result<(), Refusal> {
+        *control = self.control.into();
         match self.refusal {
             0 => Ok(()),
             number => Err(refusal(number)),

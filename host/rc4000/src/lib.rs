@@ -27,28 +27,34 @@ pub fn run(
     budget: u32,
 ) -> Result<Report, Refusal> {
     // SAFETY: pointer and length are those of one slice, lent for the call.
-    let result =
-        unsafe { ffi::rc4000_run(store.as_mut_ptr(), store.len(), *control, lines, budget) };
-    *control = result.control;
-    result.report()
+    let result = unsafe {
+        ffi::rc4000_run(
+            store.as_mut_ptr(),
+            store.len(),
+            (*control).into(),
+            lines,
+            budget,
+        )
+    };
+    result.hand_back(control)
 }
 
 /// Presses the reset key: IC goes to word 10 and the machine is in the reset
 /// state. In that state the key changes nothing.
 pub fn press_reset(store: &mut [u32], control: &mut Control) -> Result<(), Refusal> {
     // SAFETY: as in `run`.
-    let state = unsafe { ffi::rc4000_press_reset(store.as_mut_ptr(), store.len(), *control) };
-    *control = state.control;
-    state.done()
+    let state =
+        unsafe { ffi::rc4000_press_reset(store.as_mut_ptr(), store.len(), (*control).into()) };
+    state.hand_back(control)
 }
 
 /// Presses the start key: in the reset state IC is taken from word 14 and the
 /// state is left. Elsewhere the key changes nothing.
 pub fn press_start(store: &mut [u32], control: &mut Control) -> Result<(), Refusal> {
     // SAFETY: as in `run`.
-    let state = unsafe { ffi::rc4000_press_start(store.as_mut_ptr(), store.len(), *control) };
-    *control = state.control;
-    state.done()
+    let state =
+        unsafe { ffi::rc4000_press_start(store.as_mut_ptr(), store.len(), (*control).into()) };
+    state.hand_back(control)
 }
 
 /// Loads a tape into the store and its control record into `control`. The
@@ -59,13 +65,12 @@ pub fn load(store: &mut [u32], control: &mut Control, tape: &[u8]) -> Result<(),
         ffi::rc4000_load(
             store.as_mut_ptr(),
             store.len(),
-            *control,
+            (*control).into(),
             tape.as_ptr(),
             tape.len(),
         )
     };
-    *control = state.control;
-    state.done()
+    state.hand_back(control)
 }
 
 /// The text of the first remark of a tape that loads into a store of `cells`

@@ -4,7 +4,6 @@ use std::fmt;
 
 /// The control record of a machine. Reset state implies monitor mode and
 /// interrupts disabled.
-#[repr(C)]
 #[derive(Clone, Copy, Debug, PartialEq, Eq, Hash)]
 pub struct Control {
     /// Instruction counter, 24 bits.

@@ -1,0 +1,93 @@
+/* Every byte as each flag of the control record, through every call that takes
+ * one: what is not 0 or 1 is refused with 3, after 1 and 2, and comes back as
+ * given. Prints what differs. */
+#include "rc4000.h"
+#include <stdio.h>
+#include <string.h>
+
+enum { CELLS = 8, FLAGS = 3 };
+
+static const uint8_t tape[32] = {20, 0, 0, 0, 2, 0, [22] = 128, 0, 5, 0, 0, 0, 0, 0, 3, 0};
+static const rc4000_control tapes_record = {.pr = 128, .monitor = 1, .reset = 1};
+static int differences;
+
+static void expect(bool holds, const char *what, int flag, unsigned byte) {
+    if (!holds) {
+        printf("%s: flag %d, byte %u\n", what, flag, byte);
+        differences++;
+    }
+}
+
+/* Monitor mode, one flag set to a byte. */
+static rc4000_control with_flag(int flag, unsigned byte) {
+    rc4000_control control = {14, 3, 5, 7, 129, 2, 1, 0, 0};
+    uint8_t *flags[FLAGS] = {&control.monitor, &control.enabled, &control.reset};
+    *flags[flag] = (uint8_t)byte;
+    return control;
+}
+
+static bool same(rc4000_control a, rc4000_control b) {
+    return a.ic == b.ic && a.ir == b.ir && a.im == b.im && a.pending == b.pending && a.pr == b.pr &&
+           a.ex == b.ex && a.monitor == b.monitor && a.enabled == b.enabled && a.reset == b.reset;
+}
+
+/* Each call on a store of these cells gives the refusal, and changes nothing. */
+static void refused(const uint32_t *cells, size_t count, uint32_t refusal, int flag,
+                    unsigned byte) {
+    const rc4000_control given = with_flag(flag, byte);
+    uint32_t store[CELLS];
+    memcpy(store, cells, sizeof store);
+    const rc4000_result run = rc4000_run(store, count, given, 16777216, 65536);
+    expect(run.outcome == RC4000_REFUSED && run.number == refusal, "run", flag, byte);
+    expect(run.executed == 0 && run.entries == 0, "counts of run", flag, byte);
+    expect(same(run.control, given), "record of run", flag, byte);
+    const rc4000_state reset = rc4000_press_reset(store, count, given);
+    expect(reset.refusal == refusal, "reset key", flag, byte);
+    expect(same(reset.control, given), "record of the reset key", flag, byte);
+    const rc4000_state start = rc4000_press_start(store, count, given);
+    expect(start.refusal == refusal, "start key", flag, byte);
+    expect(same(start.control, given), "record of the start key", flag, byte);
+    expect(memcmp(store, cells, sizeof store) == 0, "store", flag, byte);
+}
+
+/* 0 and 1 are taken. */
+static void taken(int flag, unsigned byte) {
+    const rc4000_control given = with_flag(flag, byte);
+    uint32_t store[CELLS] = {0};
+    const rc4000_result run = rc4000_run(store, CELLS, given, 0, 0);
+    expect(run.outcome == (given.reset ? RC4000_RESET : RC4000_SPENT), "run", flag, byte);
+    expect(same(run.control, given), "record of run", flag, byte);
+    const rc4000_state start = rc4000_press_start(store, CELLS, given);
+    expect(start.refusal == 0 && start.control.reset == 0, "start key", flag, byte);
+    const rc4000_state reset = rc4000_press_reset(store, CELLS, given);
+    expect(reset.refusal == 0 && reset.control.reset == 1, "reset key", flag, byte);
+}
+
+/* The loader does not test the record that it is given. */
+static void loaded(int flag, unsigned byte) {
+    const rc4000_control given = with_flag(flag, byte);
+    uint32_t store[CELLS] = {0};
+    const rc4000_state empty = rc4000_load(store, CELLS, given, tape, 0);
+    expect(empty.refusal == RC4000_TAPE_ENDS, "empty tape", flag, byte);
+    expect(same(empty.control, given), "record of the empty tape", flag, byte);
+    const rc4000_state full = rc4000_load(store, CELLS, given, tape, sizeof tape);
+    expect(full.refusal == 0, "tape", flag, byte);
+    expect(same(full.control, tapes_record), "record of the tape", flag, byte);
+}
+
+int main(void) {
+    static const uint32_t good[CELLS], big[CELLS] = {[5] = 134217728};
+    for (int flag = 0; flag < FLAGS; flag++) {
+        for (unsigned byte = 0; byte < 256; byte++) {
+            loaded(flag, byte);
+            if (byte < 2) {
+                taken(flag, byte);
+                continue;
+            }
+            refused(good, CELLS - 1, RC4000_STORE_SIZE, flag, byte);
+            refused(big, CELLS, RC4000_CELL_VALUE, flag, byte);
+            refused(good, CELLS, RC4000_CONTROL_FIELD, flag, byte);
+        }
+    }
+    return differences != 0;
+}
