@@ -2,13 +2,8 @@
 //! cases. Prints the first difference, or what was covered.
 
 use compare::{compare, Coverage};
-use protocol::Emulation;
+use protocol::{Emulation, Proved};
 use std::process::ExitCode;
-
-#[cfg(feature = "proved")]
-const TESTED: protocol::Proved = protocol::Proved;
-#[cfg(not(feature = "proved"))]
-const TESTED: Emulation = Emulation;
 
 fn arguments() -> Option<(u64, u64)> {
     let mut arguments = std::env::args().skip(1);
@@ -23,7 +18,7 @@ fn main() -> ExitCode {
         return ExitCode::from(2);
     };
     let mut coverage = Coverage::default();
-    let result = compare(TESTED, Emulation, seed, count, &mut coverage);
+    let result = compare(Proved, Emulation, seed, count, &mut coverage);
     println!("{coverage}");
     match result {
         Ok(()) => {
