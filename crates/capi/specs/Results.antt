@@ -52,7 +52,7 @@ unfoldable pub recordOf : Control → ControlRecord
 recordOf c =
     record { ic = c .ic; ir = c .ir; im = c .im; pending = c .pending; pr = c .pr; ex = c .ex; monitor = flagByte (c .monitor); enabled = flagByte (c .enabled); reset = flagByte (c .reset) }
 
--- a flag byte over 1 is refused with 3, after the store's 1 and 2, before all other tests
+-- a flag byte over 1: 3, where the store gives neither 1 nor 2; with bytes of 0 and 1 the call makes its own tests, from 1 on
 unfoldable pub judgeFlags : List ℕ → ControlRecord → Verdict
 judgeFlags s r = cond (flagsFit r) Accepted (judgeThen (judgeStore s) (Rejected ControlField))
 

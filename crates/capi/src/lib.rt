@@ -1,4 +1,4 @@
-// The C calls (host/include/rc4000.h). Enums do not cross: an outcome is two numbers, a verdict is one. A flag crosses as a byte, which is tested.
+// The C calls (host/include/rc4000.h). Enums do not cross: an outcome is two numbers, a verdict is one. A flag that comes in is a byte, which is tested; `found` only goes out.
 ghost use mathlib.Core.Path.{_≡_};
 ghost use Rattle.tape.specs.Remark.{remarkSpan};
 ghost use Rattle.capi.specs.Results.{flagByte, flagsFit, controlIn, recordOf, judgeFlags, outcomeCode, outcomeNumber, resultBy, refusedRun, stateBy, refusedState, returned, runCall, resetCall, startCall, loadCall, textOf};
@@ -101,7 +101,7 @@ impl ControlRecord {
     }
 }
 
-// 3 for a flag byte over 1, where the store has nothing that is refused with 1 or 2. The store is looked at only then.
+// 3 for a flag byte over 1, after the store's 1 and 2. With good flag bytes the store is not looked at: the call itself does that.
 fn judge_flags(store: &[u32], r: ControlRecord) -> Verdict
     ensures { λ v. ⌜ v ≡ judgeFlags (now (store .entry)) r ⌝ }
 {
