@@ -6,6 +6,7 @@ use mathlib.Core.List.{List}
 use lib.Dec.{eqb, ltb}
 use Rattle.machine.specs.declared.Control.{Control}
 use Rattle.machine.specs.declared.Kind.the-variants.{Exception, Line}
+use Rattle.machine.specs.declared.Outcome.{Outcome}
 use Rattle.machine.specs.declared.Outcome.the-variants.{Reset, Interrupted, Spent}
 use Rattle.machine.specs.declared.Refusal.{Refusal}
 use Rattle.machine.specs.declared.Refusal.the-variants.{ControlField}
@@ -66,22 +67,20 @@ pub record Returned (R : Type 0) : Type 0 where
 abbrev pub returned : {R : Type 0} → R → List ℕ → Returned R
 returned r s = record { result = r; cells = s }
 
--- 0 refused, 1 spent, 2 reset, 3 interrupted by an exception, 4 interrupted by a line
-abbrev pub outcomeCode : Answer → ℕ
-outcomeCode (Refused q) = 0
-outcomeCode (Ended Spent) = 1
-outcomeCode (Ended Reset) = 2
-outcomeCode (Ended (Interrupted Exception)) = 3
-outcomeCode (Ended (Interrupted (Line n))) = 4
+-- 1 spent, 2 reset, 3 interrupted by an exception, 4 interrupted by a line
+abbrev pub outcomeCode : Outcome → ℕ
+outcomeCode Spent = 1
+outcomeCode Reset = 2
+outcomeCode (Interrupted Exception) = 3
+outcomeCode (Interrupted (Line n)) = 4
 
--- the refusal's number, the number stored by a line's entry, else 0
-abbrev pub outcomeNumber : Answer → ℕ
-outcomeNumber (Refused q) = refusalNumber q
-outcomeNumber (Ended Spent) = 0
-outcomeNumber (Ended Reset) = 0
-outcomeNumber (Ended (Interrupted k)) = kindNumber k
+-- the number stored by a line's entry, else 0
+abbrev pub outcomeNumber : Outcome → ℕ
+outcomeNumber Spent = 0
+outcomeNumber Reset = 0
+outcomeNumber (Interrupted k) = kindNumber k
 
--- a refused run: the record r as given, counts zero
+-- a refused run: outcome 0 and the refusal's number, the record r as given, counts zero
 abbrev pub refusedRun : Refusal → ControlRecord → RunResult
 refusedRun q r = record { control = r; outcome = 0; number = refusalNumber q; executed = 0; entries = 0 }
 
@@ -92,7 +91,7 @@ refusedState q r = record { control = r; refusal = refusalNumber q }
 -- a run's answer, counts and control record
 abbrev pub resultBy : Answer → ControlRecord → Control → ℕ → ℕ → RunResult
 resultBy (Refused q) r c d e = refusedRun q r
-resultBy (Ended o) r c d e = record { control = recordOf c; outcome = outcomeCode (Ended o); number = outcomeNumber (Ended o); executed = d; entries = e }
+resultBy (Ended o) r c d e = record { control = recordOf c; outcome = outcomeCode o; number = outcomeNumber o; executed = d; entries = e }
 
 abbrev pub stateBy : Verdict → ControlRecord → Control → StateResult
 stateBy (Rejected q) r c = refusedState q r

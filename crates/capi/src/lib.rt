@@ -116,7 +116,7 @@ fn judge_flags(store: &[u32], r: ControlRecord) -> Verdict
 }
 
 fn interruption_code(k: Kind) -> u32
-    ensures { λ r. ⌜ r ≡ outcomeCode (Answer.Ended (Outcome.Interrupted k)) ⌝ }
+    ensures { λ r. ⌜ r ≡ outcomeCode (Outcome.Interrupted k) ⌝ }
 {
     match k {
         Kind::Exception => 3,
@@ -125,7 +125,7 @@ fn interruption_code(k: Kind) -> u32
 }
 
 fn outcome_code(o: Outcome) -> u32
-    ensures { λ r. ⌜ r ≡ outcomeCode (Answer.Ended o) ⌝ }
+    ensures { λ r. ⌜ r ≡ outcomeCode o ⌝ }
 {
     match o {
         Outcome::Spent => 1,
@@ -135,7 +135,7 @@ fn outcome_code(o: Outcome) -> u32
 }
 
 fn outcome_number(o: Outcome) -> u32
-    ensures { λ r. ⌜ r ≡ outcomeNumber (Answer.Ended o) ⌝ }
+    ensures { λ r. ⌜ r ≡ outcomeNumber o ⌝ }
 {
     match o {
         Outcome::Spent => 0,
