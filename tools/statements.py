@@ -52,7 +52,7 @@ def statements(tree):
     for path, text in tree.items():
         m = re.fullmatch(rf"crates/(\w+)/(specs/({'|'.join(FILES)})\.antt)", path)
         if m:
-            for kind, name in re.findall(r"(?m)^(abbrev|unfoldable) pub (\S+) : Type 0$", text):
+            for name in re.findall(r"(?m)^(?:abbrev|unfoldable) pub (\S+) : Type 0$", text):
                 found.append(Statement(m[1], m[2], name, re.sub(r"(?<=.)(?=[A-Z])", "-", name).lower()))
             if m[3] == "Grammar":
                 found += [Statement(m[1], m[2], name, "") for name in re.findall(r"(?m)^pub (?:record|data) (\S+)", text)]
@@ -65,8 +65,8 @@ def edits(tree):
     for path, text in tree.items():
         m = re.fullmatch(r"crates/(\w+)/must-fail/(\w+)\.edit", path)
         if m:
-            named = re.match(rf"# ({CAMEL}): ", text)
-            found[f"{m[1]}/{m[2]}"] = Edit(m[1], named[1] if named else "", set(re.findall(r"(?m)^file: (.*)", text)), re.findall(r"(?m)^old: (.*)", text))
+            of = re.match(rf"# ({CAMEL}): ", text)
+            found[f"{m[1]}/{m[2]}"] = Edit(m[1], of[1] if of else "", set(re.findall(r"(?m)^file: (.*)", text)), re.findall(r"(?m)^old: (.*)", text))
     return found
 
 
