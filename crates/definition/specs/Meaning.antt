@@ -19,14 +19,15 @@ use Rattle.floating.specs.Divide.{fd}
 use Rattle.floating.specs.Convert.{cf}
 use Rattle.definition.specs.Machine.{Machine}
 use Rattle.definition.specs.MicroOps.{testAddress, testJump, setW, setWpre, link, storeWord, storeByte, setIC, skipIf, clearFlags, overflow, setEX, modify, plain, setKey, setPR, setIM, setIR, setEnabled, Operation, unprivileged, privileged, autoload, unassigned}
-use Rattle.definition.specs.Operands.{regW, regPre, wordAt, firstAt, byteAt, extended, always, even, afterW, integerOverflow, floatingOverflow, testInteger, setPair}
+use Rattle.definition.specs.Operands.{regW, regPre, wordAt, firstAt, byteAt, extended, always, even, afterW, integerOverflow, floatingOverflow, disconnected, busy, testInteger, setPair}
 
 -- the mnemonic codes of A.2, and `None` for a code that is not used
 pub data Op : Type 0 where
   AM AL AC HL HS RL RS RX DL DS BZ BL BA BS WA WS WM WD AA SS CI CF FA FS FM FD LA LO LX AS AD LS LD NS ND JL SH SL SE SN SO SZ SX SP JE JD IC IS ML MS XL XS PL PS KL KS IO AW None : Op
 
 unfoldable pub meaning : Op → ℕ → ℕ → Machine → Operation
--- Modify Next Address: AR := signed SB, added to the displacement of the next instruction
+-- Modify Next Address: AR := signed SB, added to the displacement of the next instruction. The fetch that is printed here belongs to the next
+-- cycle (docs/DECISIONS.md B5)
 meaning AM sb w m = unprivileged (modify (always sb) ∷ [])
 -- Load Address: W := SB
 meaning AL sb w m = unprivileged (setW (always sb) ∷ [])
@@ -164,8 +165,8 @@ meaning PS sb w m = unprivileged (testAddress sb ∷ storeByte sb (λ n. n .cont
 meaning KL sb w m = unprivileged (testAddress sb ∷ setW (λ n. key (n .cells) (sb / 2)) ∷ [])
 -- Store Protection Key: Test Mode; Test Address; protection key(SB) := W(21:23)
 meaning KS sb w m = privileged (plain (testAddress sb) ∷ setKey sb (regW w) ∷ [])
--- Input/Output: Test Mode; EX(22) := if disconnected(device) then 1 else 0; EX(23) := if busy(device) then 1 else 0; every device is disconnected
-meaning IO sb w m = privileged (plain (setEX (λ n. n .control .ex / 4 * 4 + 2)) ∷ [])
+-- Input/Output: Test Mode; EX(22) := if disconnected(device) then 1 else 0; EX(23) := if busy(device) then 1 else 0; ..
+meaning IO sb w m = privileged (plain (setEX (λ n. n .control .ex / 4 * 4 + (2 * disconnected + busy))) ∷ [])
 -- Autoload Word: Test Mode; ..; if disconnected(0) then goto Reset System
 meaning AW sb w m = autoload
 -- an unassigned code: Instruction Exception

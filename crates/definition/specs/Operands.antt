@@ -50,6 +50,13 @@ integerOverflow = 4194304
 abbrev pub floatingOverflow : ℕ
 floatingOverflow = 2097152
 
+-- EX(22) := if disconnected(device) then 1 else 0; EX(23) := if busy(device) then 1 else 0: for now no device is connected
+abbrev pub disconnected : ℕ
+disconnected = 1
+
+abbrev pub busy : ℕ
+busy = 0
+
 -- 14.7, Test Integer: if AR(-1) <> AR(0) then IR(1) := EX(22) := 1; EX(23) := carry
 abbrev pub testInteger : Sum → List MicroOp
 testInteger r = overflow integerOverflow (always (r .over)) ∷ setCarry (always (r .carry)) ∷ []
