@@ -1,22 +1,27 @@
 // One cycle (14.5): lines, fetch, decode, effective address, operation, entry.
 ghost use mathlib.Core.Path.{_≡_};
-ghost use Prim.Native.Nat.{_/_, _<_, _≤_};
-ghost use mathlib.Core.Bool.{false, cond};
+ghost use Prim.Native.Nat.{_+_, _*_, _/_, _%_, _<_, _≤_};
 ghost use lib.ListN.{length};
-ghost use Rattle.machine.specs.Store.{absent};
+ghost use Rattle.machine.specs.Fields.{withIC};
 ghost use Rattle.integer.specs.Sums.{sum24};
 ghost use Rattle.definition.specs.Machine.{machine};
-ghost use Rattle.definition.specs.Bridge.{effectOf};
-ghost use Rattle.running.specs.Cycle.{bitOf, requested, firstRequest, lineOf, bitAlone, lineCleared, entryRecord, enter, fetched, displacement, relative, indexed, address, indirectAbsent, effectiveAddress, operate, fetchRecord, decode, fetch, concluded, cycle};
-ghost use Rattle.running.specs.Bridge.{cycleOf};
-use machine::Completion;
+ghost use Rattle.running.specs.Cycle.{bitOf, requested, firstRequest, lineOf, bitAlone, lineCleared, enter, displacement, relative, indexed, address, indirectAbsent, effectiveAddress, operate, decode, fetch, cycle};
+ghost use Rattle.row.specs.Row.{controlAt, IsRow};
+ghost use Rattle.row.specs.Answers.{ending, endingOf};
+ghost use Rattle.cycle.specs.Steps.{cycleOf, Fetched, fetchAbsent, violates, fetchMode};
 use machine::Control;
-use machine::CycleEnd;
-use machine::Cycled;
-use machine::Fault;
 use machine::Instruction;
 use machine::Kind;
-use machine::Performed;
+use machine::WORD;
+use row::End;
+use row::Row;
+
+// How a cycle ended.
+pub enum CycleEnd {
+    Executed,
+    Reset,
+    Entered(Kind),
+}
 
 fn bit_of(x: u32, p: u32) -> u32
     requires { ⌜ p < 24 ⌝ }
@@ -50,16 +55,18 @@ fn first_request(ir: u32, im: u32) -> u32
 }
 
 // The line to be taken, or 24. The positions are looked through only where some line is requested.
-fn line_of(c: Control) -> u32
-    ensures value { λ r. ⌜ r ≡ lineOf c ⌝ }
+fn line_of(k: &Row) -> u32
+    ensures value { λ r. ⌜ r ≡ lineOf (controlAt (now (k .entry))) ⌝ }
     ensures bound { λ r. ⌜ r ≤ 24 ⌝ }
 {
-    if c.enabled {
-        if c.ir & c.im == 0 {
+    if row::is_enabled(k) {
+        let ir = row::ir(k);
+        let im = row::im(k);
+        if ir & im == 0 {
             return 24;
         }
-        if c.pending == 0 {
-            return first_request(c.ir, c.im);
+        if row::pending(k) == 0 {
+            return first_request(ir, im);
         }
         return 24;
     }
@@ -74,51 +81,54 @@ fn bit_alone(x: u32, p: u32) -> u32
     (x >> (23 - p)) % 2 << (23 - p)
 }
 
-fn clear_line(c: Control, p: u32) -> Control
-    requires { ⌜ p < 24 ⌝ }
-    ensures { λ r. ⌜ r ≡ lineCleared c p ⌝ }
+fn clear_line(k: &mut Row, p: u32)
+    requires { ⌜ (p < 24) × IsRow (now k) ⌝ }
+    ensures value { λ _. ⌜ controlAt (now (k .exit)) ≡ lineCleared (controlAt (now (k .entry))) p ⌝ }
+    ensures kept { λ _. ⌜ IsRow (now (k .exit)) ⌝ }
 {
-    let b = bit_alone(c.ir, p);
-    machine::with_ir(c, c.ir - b)
-}
-
-fn entry_record(c: Control, a: u32) -> Control
-    ensures { λ r. ⌜ r ≡ entryRecord c a ⌝ }
-{
-    Control {
-        ic: a / 2 * 2,
-        ir: c.ir,
-        im: c.im,
-        pending: 0,
-        pr: c.pr,
-        ex: c.ex,
-        monitor: true,
-        enabled: false,
-        reset: c.reset,
-    }
+    let x = row::ir(k);
+    let b = bit_alone(x, p);
+    row::set_ir(k, x - b);
 }
 
 // An interruption is entered with its number.
-fn enter(s: &mut [u32], n: u32, c: Control) -> Control
-    ensures { λ r. ⌜ machine (now (s .exit)) r ≡ enter n (now (s .entry)) c ⌝ }
+fn enter(s: &mut [u32], n: u32, k: &mut Row)
+    requires { ⌜ IsRow (now k) ⌝ }
+    ensures value { λ _. ⌜ machine (now (s .exit)) (controlAt (now (k .exit))) ≡ enter n (now (s .entry)) (controlAt (now (k .entry))) ⌝ }
+    ensures kept { λ _. ⌜ IsRow (now (k .exit)) ⌝ }
 {
     machine::put_word(s, Control::INTERRUPT_NUMBER / 2, n);
-    machine::put_word(s, Control::RETURN_ADDRESS / 2, c.ic);
+    let x = row::ic(k);
+    machine::put_word(s, Control::RETURN_ADDRESS / 2, x);
     let a = machine::word_at(s, Control::INTERRUPTION_PROGRAM / 2);
-    entry_record(c, a)
+    row::set_ic(k, a / 2 * 2);
+    row::set_pending(k, 0);
+    row::set_monitor(k, true);
+    row::set_enabled(k, false);
 }
 
-fn fetched(s: &[u32], ic: u32) -> u32
+// A place that no store has where IC is odd.
+fn rotated(ic: u32) -> u32
     requires { ⌜ ic < 16777216 ⌝ }
-    ensures { λ r. ⌜ r ≡ fetched (now (s .entry)) ic ⌝ }
+    ensures { λ r. ⌜ r ≡ ic / 2 + ic % 2 * 2147483648 ⌝ }
 {
-    if ic % 2 == 0 {
-        return machine::word_at(s, ic / 2);
+    ic / 2 + ic % 2 * 2147483648
+}
+
+// The instruction at IC, with the key of its cell over it.
+fn fetched(s: &[u32], ic: u32) -> u32
+    requires { ⌜ (ic < 16777216) × (length (now s) ≤ 8388608) ⌝ }
+    ensures { λ r. ⌜ Fetched (now (s .entry)) ic r ⌝ }
+{
+    let h = rotated(ic);
+    if (h as usize) < s.len() {
+        return machine::cell_at(s, h);
     }
     let f = machine::byte_at(s, ic);
     let n = integer::sum24(ic, 1);
     let d = machine::byte_at(s, n);
-    f * 4096 + d
+    let q = machine::key_at(s, ic / 2);
+    q * WORD + f * 4096 + d
 }
 
 fn displacement(d: u32) -> u32
@@ -150,14 +160,16 @@ fn indexed(s: &[u32], x: u32, a: u32) -> u32
     }
 }
 
-fn address(s: &[u32], c: Control, i: Instruction) -> u32
+fn address(s: &[u32], k: &Row, i: Instruction) -> u32
     requires { ⌜ i .d < 4096 ⌝ }
-    ensures value { λ r. ⌜ r ≡ address (now (s .entry)) c i ⌝ }
+    ensures value { λ r. ⌜ r ≡ address (now (s .entry)) (controlAt (now (k .entry))) i ⌝ }
     ensures bound { λ r. ⌜ r < 16777216 ⌝ }
 {
     let d = displacement(i.d);
-    let p = integer::sum24(d, c.pending);
-    let a = relative(i.m, c.ic, p);
+    let q = row::pending(k);
+    let p = integer::sum24(d, q);
+    let n = row::ic(k);
+    let a = relative(i.m, n, p);
     indexed(s, i.x, a)
 }
 
@@ -183,120 +195,111 @@ fn effective_address(s: &[u32], m: u32, a: u32) -> u32
     }
 }
 
-fn operate(s: &mut [u32], c: Control, i: Instruction, a: u32) -> Performed
-    requires { ⌜ a < 16777216 ⌝ }
-    ensures { λ r. ⌜ effectOf r (now (s .exit)) ≡ operate (now (s .entry)) c i a ⌝ }
+fn operate(s: &mut [u32], k: &mut Row, i: Instruction, a: u32) -> End
+    requires { ⌜ (a < 16777216) × IsRow (now k) ⌝ }
+    ensures value { λ r. ⌜ endingOf r (now (s .exit)) (controlAt (now (k .exit))) ≡ ending (operate (now (s .entry)) (controlAt (now (k .entry))) i a) ⌝ }
+    ensures kept { λ _. ⌜ IsRow (now (k .exit)) ⌝ }
 {
     let sb = effective_address(s, i.m, a);
     if is_indirect_absent(s, i.m, a) {
-        return Performed::faulted(c, Fault::Absent(a));
+        return End::Faulted;
     }
-    dispatch::operate(s, c, i.code, i.w, sb)
+    dispatch::operate(s, k, i.code, i.w, sb)
 }
 
-fn fetch_record(c: Control, p: bool) -> Control
-    ensures { λ r. ⌜ r ≡ fetchRecord c p ⌝ }
+// Test Protection of the fetch from a cell with the key q; where it passes, monitor mode := PR(PK) = 1. Most fetches keep the mode.
+fn is_fetch_violation(k: &mut Row, q: u32) -> bool
+    requires { ⌜ IsRow (now k) ⌝ }
+    ensures test { λ r. ⌜ r ≡ violates (controlAt (now (k .entry))) q ⌝ }
+    ensures mode { λ r. ⌜ controlAt (now (k .exit)) ≡ fetchMode (controlAt (now (k .entry))) q ⌝ }
+    ensures kept { λ _. ⌜ IsRow (now (k .exit)) ⌝ }
 {
-    let n = integer::sum24(c.ic, 2);
-    Control {
-        ic: n,
-        ir: c.ir,
-        im: c.im,
-        pending: 0,
-        pr: c.pr,
-        ex: c.ex,
-        monitor: p,
-        enabled: c.enabled,
-        reset: c.reset,
-    }
-}
-
-// Test Protection of a cell that is forbidden or not.
-fn is_violation(c: Control, forbidden: bool) -> bool
-    ensures { λ r. ⌜ r ≡ cond (c .monitor) false forbidden ⌝ }
-{
-    if c.monitor { false } else { forbidden }
-}
-
-// v is the instruction at IC.
-fn decode(s: &mut [u32], c: Control, v: u32) -> Performed
-    requires { ⌜ v ≡ fetched (now s) (c .ic) ⌝ }
-    ensures { λ r. ⌜ effectOf r (now (s .exit)) ≡ decode (now (s .entry)) c ⌝ }
-{
-    let p = machine::is_forbidden(s, c, c.ic / 2);
-    if is_violation(c, p) {
-        let n = integer::sum24(c.ic, 2);
-        let d = machine::with_ic(c, n);
-        return Performed::faulted(d, Fault::Jump(c.ic));
-    }
-    let d = fetch_record(c, p);
-    let i = Instruction::of_word(v);
-    let a = address(s, c, i);
-    operate(s, d, i, a)
-}
-
-// IC + 1 does not exist, where IC does: never at an even IC, since both are in one cell.
-fn is_next_absent(s: &[u32], ic: u32) -> bool
-    requires { ⌜ ic / 2 < length (now s) ⌝ }
-    ensures { λ r. ⌜ r ≡ absent (now (s .entry)) (sum24 ic 1) ⌝ }
-{
-    if ic % 2 == 0 {
+    if row::keeps_mode(k, q) {
         return false;
+    }
+    if row::is_task(k) {
+        return true;
+    }
+    row::set_monitor(k, false);
+    false
+}
+
+// IC := IC + 2.
+fn raise_ic(k: &mut Row)
+    requires { ⌜ IsRow (now k) ⌝ }
+    ensures value { λ _. ⌜ controlAt (now (k .exit)) ≡ withIC (controlAt (now (k .entry))) (sum24 (controlAt (now (k .entry)) .ic) 2) ⌝ }
+    ensures kept { λ _. ⌜ IsRow (now (k .exit)) ⌝ }
+{
+    let a = row::ic(k);
+    let n = integer::sum24(a, 2);
+    row::set_ic(k, n);
+}
+
+// v is the instruction at IC, with the key of its cell over it.
+fn decode(s: &mut [u32], k: &mut Row, v: u32) -> End
+    requires { ⌜ Fetched (now s) (controlAt (now k) .ic) v × IsRow (now k) ⌝ }
+    ensures value { λ r. ⌜ endingOf r (now (s .exit)) (controlAt (now (k .exit))) ≡ ending (decode (now (s .entry)) (controlAt (now (k .entry)))) ⌝ }
+    ensures kept { λ _. ⌜ IsRow (now (k .exit)) ⌝ }
+{
+    if is_fetch_violation(k, v / WORD) {
+        raise_ic(k);
+        return End::Faulted;
+    }
+    let i = Instruction::of_word(v % WORD);
+    let a = address(s, k, i);
+    raise_ic(k);
+    row::set_pending(k, 0);
+    operate(s, k, i, a)
+}
+
+// IC or IC + 1 does not exist.
+fn is_fetch_absent(s: &[u32], ic: u32) -> bool
+    requires { ⌜ (ic < 16777216) × (length (now s) ≤ 8388608) ⌝ }
+    ensures { λ r. ⌜ r ≡ fetchAbsent (now (s .entry)) ic ⌝ }
+{
+    let h = rotated(ic);
+    if (h as usize) < s.len() {
+        return false;
+    }
+    if machine::is_absent(s, ic) {
+        return true;
     }
     let n = integer::sum24(ic, 1);
     machine::is_absent(s, n)
 }
 
 // The instruction is read before the tests, where an absent cell reads as 0: so one comparison serves the reading and the test.
-fn fetch(s: &mut [u32], c: Control) -> Performed
-    requires { ⌜ c .ic < 16777216 ⌝ }
-    ensures { λ r. ⌜ effectOf r (now (s .exit)) ≡ fetch (now (s .entry)) c ⌝ }
+fn fetch(s: &mut [u32], k: &mut Row) -> End
+    requires { ⌜ (controlAt (now k) .ic < 16777216) × (length (now s) ≤ 8388608) × IsRow (now k) ⌝ }
+    ensures value { λ r. ⌜ endingOf r (now (s .exit)) (controlAt (now (k .exit))) ≡ ending (fetch (now (s .entry)) (controlAt (now (k .entry)))) ⌝ }
+    ensures kept { λ _. ⌜ IsRow (now (k .exit)) ⌝ }
 {
-    let v = fetched(s, c.ic);
-    if machine::is_absent(s, c.ic) {
-        return Performed::faulted(c, Fault::Absent(c.ic));
+    let ic = row::ic(k);
+    let v = fetched(s, ic);
+    if is_fetch_absent(s, ic) {
+        return End::Faulted;
     }
-    if is_next_absent(s, c.ic) {
-        let n = integer::sum24(c.ic, 1);
-        return Performed::faulted(c, Fault::Absent(n));
-    }
-    decode(s, c, v)
+    decode(s, k, v)
 }
 
-// An instruction is executed, or its fault is an entry.
-fn conclude(s: &mut [u32], r: Performed) -> Cycled
-    ensures { λ t. ⌜ cycleOf t (now (s .exit)) ≡ concluded (effectOf r (now (s .entry))) ⌝ }
+pub fn cycle(s: &mut [u32], k: &mut Row) -> CycleEnd
+    requires { ⌜ (controlAt (now k) .ic < 16777216) × (length (now s) ≤ 8388608) × IsRow (now k) ⌝ }
+    ensures value { λ r. ⌜ cycleOf r (now (s .exit)) (controlAt (now (k .exit))) ≡ cycle (machine (now (s .entry)) (controlAt (now (k .entry)))) ⌝ }
+    ensures kept { λ _. ⌜ IsRow (now (k .exit)) ⌝ }
 {
-    let c = r.control;
-    let k = r.completion;
-    match k {
-        Completion::Done => Cycled {
-            control: c,
-            end: CycleEnd::Executed,
-        },
-        Completion::Faulted(_) => {
-            let d = enter(s, 0, c);
-            Cycled {
-                control: d,
-                end: CycleEnd::Entered(Kind::Exception),
-            }
+    let p = line_of(k);
+    if p < 24 {
+        clear_line(k, p);
+        enter(s, p * 2, k);
+        return CycleEnd::Entered(Kind::Line(p * 2));
+    }
+    let e = fetch(s, k);
+    match e {
+        End::Done => CycleEnd::Executed,
+        End::Reset => CycleEnd::Reset,
+        End::Faulted => {
+            enter(s, 0, k);
+            CycleEnd::Entered(Kind::Exception)
         }
     }
-}
-
-pub fn cycle(s: &mut [u32], c: Control) -> Cycled
-    requires { ⌜ c .ic < 16777216 ⌝ }
-    ensures { λ r. ⌜ cycleOf r (now (s .exit)) ≡ cycle (machine (now (s .entry)) c) ⌝ }
-{
-    let p = line_of(c);
-    if p < 24 {
-        let d = clear_line(c, p);
-        let e = enter(s, p * 2, d);
-        return Cycled {
-            control: e,
-            end: CycleEnd::Entered(Kind::Line(p * 2)),
-        };
-    }
-    let r = fetch(s, c);
-    conclude(s, r)
 }

@@ -3,6 +3,5 @@ pub mod MicroOps
 pub mod Operands
 pub mod Meaning
 pub mod Codes
-pub mod Bridge
 pub mod Protected
 pub mod Worked

@@ -7,12 +7,12 @@ use mathlib.Core.List.{List, [], _∷_}
 use lib.Dec.{ltb}
 use borrow.Author.Tests.{ltb-true, ne-eqb}
 use Rattle.machine.specs.declared.Control.{Control}
-use Rattle.machine.specs.declared.Fault.the-variants.{Unassigned}
-use Rattle.definition.specs.Machine.{machine, fault}
+use Rattle.definition.specs.Machine.{machine}
 use Rattle.definition.specs.MicroOps.{perform}
 use Rattle.definition.specs.Meaning.{None, meaning}
 use Rattle.definition.specs.Codes.{Code, codes, lookup, executing, operating}
 use Rattle.definition.proofs.Validity.{both}
+use Rattle.row.specs.Answers.{faulted, ending}
 
 -- x is none of a, .., a + k - 1: what the last arm of a match is told
 abbrev pub NoneFrom : ℕ → ℕ → ℕ → Type 0
@@ -43,6 +43,6 @@ all-below : below 58 codes ≡ true
 unfolding below codes
 all-below = refl
 
-pub unassigned-code : (f w sb : ℕ) (s : List ℕ) (c : Control) → 58 ≤ f → fault Unassigned (machine s c) ≡ operating f w sb s c
+pub unassigned-code : (f w sb : ℕ) (s : List ℕ) (c : Control) → 58 ≤ f → faulted (machine s c) ≡ ending (operating f w sb s c)
 unfolding operating executing perform meaning
 unassigned-code f w sb s c h = rw (lookup-beyond f 58 codes all-below h)

@@ -1,49 +1,57 @@
 // Conversions and floating-point arithmetic (14.8): each function does the micro-operations of its meaning, in their order.
 ghost use mathlib.Core.Path.{_≡_};
 ghost use Prim.Native.Nat.{_<_};
-ghost use Rattle.definition.specs.Bridge.{effectOf};
+ghost use Rattle.row.specs.Row.{controlAt, IsRow};
+ghost use Rattle.row.specs.Answers.{ending, endingOf};
 ghost use Rattle.definition.specs.Codes.{executing};
 ghost use Rattle.definition.specs.Meaning.{CI, CF, FA, FS, FM, FD};
-use machine::Control;
-use machine::Fault;
-use machine::Performed;
+use machine::FLOATING_OVERFLOW;
+use machine::INTEGER_OVERFLOW;
+use row::End;
+use row::Row;
 
 // Convert Integer to Floating.
-pub fn ci(s: &mut [u32], c: Control, w: u32, sb: u32) -> Performed
-    ensures { λ r. ⌜ effectOf r (now (s .exit)) ≡ executing CI w sb (now (s .entry)) c ⌝ }
+pub fn ci(s: &mut [u32], k: &mut Row, w: u32, sb: u32) -> End
+    requires { ⌜ IsRow (now k) ⌝ }
+    ensures value { λ r. ⌜ endingOf r (now (s .exit)) (controlAt (now (k .exit))) ≡ ending (executing CI w sb (now (s .entry)) (controlAt (now (k .entry)))) ⌝ }
+    ensures kept { λ _. ⌜ IsRow (now (k .exit)) ⌝ }
 {
-    let d = machine::clear_flags(c);
+    row::clear_flags(k);
     let x = machine::word_at(s, w);
     let r = rounding::convert_integer(x, sb);
-    let e = machine::note_overflow(d, r.over, 2097152);
+    row::note_overflow(k, r.over, FLOATING_OVERFLOW);
     let p = machine::previous_register(w);
     machine::put_long(s, p, r.pre);
     machine::put_long(s, w, r.word);
-    Performed::done(e)
+    End::Done
 }
 
 // Convert Floating to Integer.
-pub fn cf(s: &mut [u32], c: Control, w: u32, sb: u32) -> Performed
-    requires { ⌜ sb < 16777216 ⌝ }
-    ensures { λ r. ⌜ effectOf r (now (s .exit)) ≡ executing CF w sb (now (s .entry)) c ⌝ }
+pub fn cf(s: &mut [u32], k: &mut Row, w: u32, sb: u32) -> End
+    requires { ⌜ (sb < 16777216) × IsRow (now k) ⌝ }
+    ensures value { λ r. ⌜ endingOf r (now (s .exit)) (controlAt (now (k .exit))) ≡ ending (executing CF w sb (now (s .entry)) (controlAt (now (k .entry)))) ⌝ }
+    ensures kept { λ _. ⌜ IsRow (now (k .exit)) ⌝ }
 {
-    let d = machine::clear_flags(c);
+    row::clear_flags(k);
     let p = machine::previous_register(w);
     let u = machine::word_at(s, p);
     let x = machine::word_at(s, w);
     let r = floating::convert_floating(u, x, sb);
-    let e = machine::note_overflow(d, r.over, 4194304);
+    row::note_overflow(k, r.over, INTEGER_OVERFLOW);
     machine::put_long(s, w, r.word);
-    Performed::done(e)
+    End::Done
 }
 
 // Add Floating.
-pub fn fa(s: &mut [u32], c: Control, w: u32, sb: u32) -> Performed
-    ensures { λ r. ⌜ effectOf r (now (s .exit)) ≡ executing FA w sb (now (s .entry)) c ⌝ }
+pub fn fa(s: &mut [u32], k: &mut Row, w: u32, sb: u32) -> End
+    requires { ⌜ IsRow (now k) ⌝ }
+    ensures value { λ r. ⌜ endingOf r (now (s .exit)) (controlAt (now (k .exit))) ≡ ending (executing FA w sb (now (s .entry)) (controlAt (now (k .entry)))) ⌝ }
+    ensures kept { λ _. ⌜ IsRow (now (k .exit)) ⌝ }
 {
-    let d = machine::clear_flags(c);
+    let e = row::ex(k);
+    row::clear_flags(k);
     if machine::is_absent(s, sb) {
-        return Performed::faulted(d, Fault::Absent(sb));
+        return End::Faulted;
     }
     let p = machine::previous_register(w);
     let x = machine::word_at(s, p);
@@ -51,20 +59,23 @@ pub fn fa(s: &mut [u32], c: Control, w: u32, sb: u32) -> Performed
     let a = machine::first_word(sb);
     let u = machine::word_at(s, a / 2);
     let v = machine::word_at(s, sb / 2);
-    let r = floating::add(c.ex, x, y, u, v);
-    let e = machine::note_overflow(d, r.over, 2097152);
+    let r = floating::add(e, x, y, u, v);
+    row::note_overflow(k, r.over, FLOATING_OVERFLOW);
     machine::put_long(s, p, r.pre);
     machine::put_long(s, w, r.word);
-    Performed::done(e)
+    End::Done
 }
 
 // Subtract Floating.
-pub fn fs(s: &mut [u32], c: Control, w: u32, sb: u32) -> Performed
-    ensures { λ r. ⌜ effectOf r (now (s .exit)) ≡ executing FS w sb (now (s .entry)) c ⌝ }
+pub fn fs(s: &mut [u32], k: &mut Row, w: u32, sb: u32) -> End
+    requires { ⌜ IsRow (now k) ⌝ }
+    ensures value { λ r. ⌜ endingOf r (now (s .exit)) (controlAt (now (k .exit))) ≡ ending (executing FS w sb (now (s .entry)) (controlAt (now (k .entry)))) ⌝ }
+    ensures kept { λ _. ⌜ IsRow (now (k .exit)) ⌝ }
 {
-    let d = machine::clear_flags(c);
+    let e = row::ex(k);
+    row::clear_flags(k);
     if machine::is_absent(s, sb) {
-        return Performed::faulted(d, Fault::Absent(sb));
+        return End::Faulted;
     }
     let p = machine::previous_register(w);
     let x = machine::word_at(s, p);
@@ -72,20 +83,23 @@ pub fn fs(s: &mut [u32], c: Control, w: u32, sb: u32) -> Performed
     let a = machine::first_word(sb);
     let u = machine::word_at(s, a / 2);
     let v = machine::word_at(s, sb / 2);
-    let r = floating::subtract(c.ex, x, y, u, v);
-    let e = machine::note_overflow(d, r.over, 2097152);
+    let r = floating::subtract(e, x, y, u, v);
+    row::note_overflow(k, r.over, FLOATING_OVERFLOW);
     machine::put_long(s, p, r.pre);
     machine::put_long(s, w, r.word);
-    Performed::done(e)
+    End::Done
 }
 
 // Multiply Floating.
-pub fn fm(s: &mut [u32], c: Control, w: u32, sb: u32) -> Performed
-    ensures { λ r. ⌜ effectOf r (now (s .exit)) ≡ executing FM w sb (now (s .entry)) c ⌝ }
+pub fn fm(s: &mut [u32], k: &mut Row, w: u32, sb: u32) -> End
+    requires { ⌜ IsRow (now k) ⌝ }
+    ensures value { λ r. ⌜ endingOf r (now (s .exit)) (controlAt (now (k .exit))) ≡ ending (executing FM w sb (now (s .entry)) (controlAt (now (k .entry)))) ⌝ }
+    ensures kept { λ _. ⌜ IsRow (now (k .exit)) ⌝ }
 {
-    let d = machine::clear_flags(c);
+    let e = row::ex(k);
+    row::clear_flags(k);
     if machine::is_absent(s, sb) {
-        return Performed::faulted(d, Fault::Absent(sb));
+        return End::Faulted;
     }
     let p = machine::previous_register(w);
     let x = machine::word_at(s, p);
@@ -93,20 +107,23 @@ pub fn fm(s: &mut [u32], c: Control, w: u32, sb: u32) -> Performed
     let a = machine::first_word(sb);
     let u = machine::word_at(s, a / 2);
     let v = machine::word_at(s, sb / 2);
-    let r = floating::multiply(c.ex, x, y, u, v);
-    let e = machine::note_overflow(d, r.over, 2097152);
+    let r = floating::multiply(e, x, y, u, v);
+    row::note_overflow(k, r.over, FLOATING_OVERFLOW);
     machine::put_long(s, p, r.pre);
     machine::put_long(s, w, r.word);
-    Performed::done(e)
+    End::Done
 }
 
 // Divide Floating.
-pub fn fd(s: &mut [u32], c: Control, w: u32, sb: u32) -> Performed
-    ensures { λ r. ⌜ effectOf r (now (s .exit)) ≡ executing FD w sb (now (s .entry)) c ⌝ }
+pub fn fd(s: &mut [u32], k: &mut Row, w: u32, sb: u32) -> End
+    requires { ⌜ IsRow (now k) ⌝ }
+    ensures value { λ r. ⌜ endingOf r (now (s .exit)) (controlAt (now (k .exit))) ≡ ending (executing FD w sb (now (s .entry)) (controlAt (now (k .entry)))) ⌝ }
+    ensures kept { λ _. ⌜ IsRow (now (k .exit)) ⌝ }
 {
-    let d = machine::clear_flags(c);
+    let e = row::ex(k);
+    row::clear_flags(k);
     if machine::is_absent(s, sb) {
-        return Performed::faulted(d, Fault::Absent(sb));
+        return End::Faulted;
     }
     let p = machine::previous_register(w);
     let x = machine::word_at(s, p);
@@ -114,9 +131,9 @@ pub fn fd(s: &mut [u32], c: Control, w: u32, sb: u32) -> Performed
     let a = machine::first_word(sb);
     let u = machine::word_at(s, a / 2);
     let v = machine::word_at(s, sb / 2);
-    let r = floating::divide(c.ex, x, y, u, v);
-    let e = machine::note_overflow(d, r.over, 2097152);
+    let r = floating::divide(e, x, y, u, v);
+    row::note_overflow(k, r.over, FLOATING_OVERFLOW);
     machine::put_long(s, p, r.pre);
     machine::put_long(s, w, r.word);
-    Performed::done(e)
+    End::Done
 }

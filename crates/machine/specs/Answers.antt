@@ -1,9 +1,6 @@
--- Document 01's number of each refusal, the number that an entry stores, and what an instruction answers.
+-- Document 01's number of each refusal, and the number that an entry stores.
 -- Assumes nothing.
 use Prim.Native.Nat.{ℕ}
-use Rattle.machine.specs.declared.Control.{Control}
-use Rattle.machine.specs.declared.Completion.{Completion}
-use Rattle.machine.specs.declared.Performed.{Performed}
 use Rattle.machine.specs.declared.Kind.{Kind}
 use Rattle.machine.specs.declared.Kind.the-variants.{Exception, Line}
 use Rattle.machine.specs.declared.Verdict.{Verdict}
@@ -47,7 +44,3 @@ verdictNumber (Rejected q) = refusalNumber q
 abbrev pub kindNumber : Kind → ℕ
 kindNumber Exception = 0
 kindNumber (Line n) = n
-
--- how an instruction ended, and the record it leaves
-abbrev pub performed : Completion → Control → Performed
-performed k c = record { control = c; completion = k }

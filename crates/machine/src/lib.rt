@@ -3,11 +3,21 @@
 ghost use mathlib.Core.Path.{_≡_};
 ghost use Prim.Native.Nat.{_+_, _*_, _/_, _%_, _<_};
 ghost use lib.ListN.{getD, set};
-ghost use Rattle.machine.specs.Store.{word, pair, key, putWord, putKey, byte, withByte, putByte, putLink, absent, forbids, forbidden, violation, firstWord, previous};
-ghost use Rattle.machine.specs.Fields.{inTask, withIC, withIR, withIM, withPending, withPR, withEX, withEnabled, raised, flagsCleared, overflowed, carrySet};
+ghost use Rattle.machine.specs.Store.{word, pair, key, putWord, putKey, byte, withByte, putByte, putLink, absent, forbids, firstWord, previous};
+ghost use Rattle.machine.specs.Fields.{withIR, raised};
 ghost use Rattle.machine.specs.Records.{freshRecord, resetRecord};
-ghost use Rattle.machine.specs.Answers.{refusalNumber, kindNumber, performed};
+ghost use Rattle.machine.specs.Answers.{refusalNumber, kindNumber};
 ghost use Rattle.machine.specs.Format.{instructionFields};
+
+// 2^24, the number of a word's values; the same for a double-length register.
+pub const WORD: u32 = 16777216;
+
+pub const LONG_WORD: u64 = 16777216;
+
+// The weights of IR(1), integer overflow, and IR(2), floating-point overflow.
+pub const INTEGER_OVERFLOW: u32 = 4194304;
+
+pub const FLOATING_OVERFLOW: u32 = 2097152;
 
 // The control record (document 01, "The machine").
 #[repr(C)]
@@ -187,70 +197,7 @@ pub struct State {
     pub verdict: Verdict,
 }
 
-// How an instruction ended; the record stands beside it, so that it stays in registers.
-pub enum Completion {
-    Done,
-    Faulted(Fault),
-}
-
-pub struct Performed {
-    pub control: Control,
-    pub completion: Completion,
-}
-
-// Every field is named: a record that is copied whole keeps its flags in memory.
-impl Performed {
-    pub fn done(c: Control) -> Performed
-        ensures { λ r. ⌜ r ≡ performed Completion.Done c ⌝ }
-    {
-        Performed {
-            control: Control {
-                ic: c.ic,
-                ir: c.ir,
-                im: c.im,
-                pending: c.pending,
-                pr: c.pr,
-                ex: c.ex,
-                monitor: c.monitor,
-                enabled: c.enabled,
-                reset: c.reset,
-            },
-            completion: Completion::Done,
-        }
-    }
-
-    pub fn faulted(c: Control, f: Fault) -> Performed
-        ensures { λ r. ⌜ r ≡ performed (Completion.Faulted f) c ⌝ }
-    {
-        Performed {
-            control: Control {
-                ic: c.ic,
-                ir: c.ir,
-                im: c.im,
-                pending: c.pending,
-                pr: c.pr,
-                ex: c.ex,
-                monitor: c.monitor,
-                enabled: c.enabled,
-                reset: c.reset,
-            },
-            completion: Completion::Faulted(f),
-        }
-    }
-}
-
-// How a cycle ended.
-pub enum CycleEnd {
-    Executed,
-    Entered(Kind),
-}
-
-pub struct Cycled {
-    pub control: Control,
-    pub end: CycleEnd,
-}
-
-fn cell_at(s: &[u32], i: u32) -> u32
+pub fn cell_at(s: &[u32], i: u32) -> u32
     ensures { λ r. ⌜ r ≡ getD (now (s .entry)) i 0 ⌝ }
 {
     let j = i as usize;
@@ -270,25 +217,25 @@ pub fn word_at(s: &[u32], i: u32) -> u32
     ensures value { λ r. ⌜ r ≡ word (now (s .entry)) i ⌝ }
     ensures bound { λ r. ⌜ r < 16777216 ⌝ }
 {
-    cell_at(s, i) % 16777216
+    cell_at(s, i) % WORD
 }
 
 pub fn key_at(s: &[u32], i: u32) -> u32
     ensures { λ r. ⌜ r ≡ key (now (s .entry)) i ⌝ }
 {
-    cell_at(s, i) / 16777216 % 8
+    cell_at(s, i) / WORD % 8
 }
 
 fn with_word(x: u32, v: u32) -> u32
     ensures { λ r. ⌜ r ≡ x / 16777216 * 16777216 + v % 16777216 ⌝ }
 {
-    x / 16777216 * 16777216 + v % 16777216
+    x / WORD * WORD + v % WORD
 }
 
 fn with_key(x: u32, k: u32) -> u32
     ensures { λ r. ⌜ r ≡ k % 8 * 16777216 + x % 16777216 ⌝ }
 {
-    k % 8 * 16777216 + x % 16777216
+    k % 8 * WORD + x % WORD
 }
 
 pub fn put_word(s: &mut [u32], i: u32, v: u32)
@@ -302,7 +249,7 @@ pub fn put_word(s: &mut [u32], i: u32, v: u32)
 fn with_long(x: u32, v: u64) -> u32
     ensures { λ r. ⌜ r ≡ x / 16777216 * 16777216 + v % 16777216 ⌝ }
 {
-    x / 16777216 * 16777216 + (v % 16777216) as u32
+    x / WORD * WORD + (v % LONG_WORD) as u32
 }
 
 // The last 24 bits of a double-length register go in.
@@ -353,7 +300,7 @@ fn joined(pre: u32, w: u32) -> u64
     ensures value { λ r. ⌜ r ≡ pre * 16777216 + w ⌝ }
     ensures bound { λ r. ⌜ r < 281474976710656 ⌝ }
 {
-    (pre as u64) * 16777216 + w as u64
+    (pre as u64) * LONG_WORD + w as u64
 }
 
 // Wpre concat W.
@@ -365,6 +312,15 @@ pub fn pair_at(s: &[u32], w: u32) -> u64
     let a = word_at(s, p);
     let b = word_at(s, w);
     joined(a, b)
+}
+
+// Wpre concat W := v.
+pub fn put_pair(s: &mut [u32], w: u32, v: u64)
+    ensures { λ _. ⌜ now (s .exit) ≡ putWord (putWord (now (s .entry)) (previous w) (v / 16777216)) w v ⌝ }
+{
+    let p = previous_register(w);
+    put_long(s, p, v / LONG_WORD);
+    put_long(s, w, v);
 }
 
 // if FR(6:7) <> 0 then W := v.
@@ -385,30 +341,10 @@ pub fn is_absent(s: &[u32], a: u32) -> bool
 }
 
 // PR(PK) = 1.
-fn is_key_forbidden(pr: u32, k: u32) -> bool
+pub fn is_key_forbidden(pr: u32, k: u32) -> bool
     ensures { λ r. ⌜ r ≡ forbids pr k ⌝ }
 {
     (pr << (k % 8)) / 128 % 2 == 1
-}
-
-// The cell is forbidden, whatever the mode.
-pub fn is_forbidden(s: &[u32], c: Control, i: u32) -> bool
-    ensures { λ r. ⌜ r ≡ forbidden (now (s .entry)) c i ⌝ }
-{
-    let k = key_at(s, i);
-    is_key_forbidden(c.pr, k)
-}
-
-// Test Protection: task mode, and the cell is forbidden.
-pub fn is_violation(s: &[u32], c: Control, i: u32) -> bool
-    ensures { λ r. ⌜ r ≡ violation (now (s .entry)) c i ⌝ }
-{
-    if c.monitor {
-        false
-    } else {
-        let k = key_at(s, i);
-        is_key_forbidden(c.pr, k)
-    }
 }
 
 // The address of a double word's first word.
@@ -425,123 +361,18 @@ pub fn previous_register(w: u32) -> u32
     if w % 4 == 0 { 3 } else { w % 4 - 1 }
 }
 
-// Test Mode.
-pub fn is_task(c: Control) -> bool
-    ensures { λ r. ⌜ r ≡ inTask c ⌝ }
-{
-    !c.monitor
-}
-
-// A changed record names every field: whole records move through memory otherwise.
-pub fn with_ic(c: Control, v: u32) -> Control
-    ensures { λ r. ⌜ r ≡ withIC c v ⌝ }
-{
-    Control {
-        ic: v % 16777216,
-        ir: c.ir,
-        im: c.im,
-        pending: c.pending,
-        pr: c.pr,
-        ex: c.ex,
-        monitor: c.monitor,
-        enabled: c.enabled,
-        reset: c.reset,
-    }
-}
-
 pub fn with_ir(c: Control, v: u32) -> Control
     ensures { λ r. ⌜ r ≡ withIR c v ⌝ }
 {
     Control {
         ic: c.ic,
-        ir: v % 16777216,
+        ir: v % WORD,
         im: c.im,
         pending: c.pending,
         pr: c.pr,
         ex: c.ex,
         monitor: c.monitor,
         enabled: c.enabled,
-        reset: c.reset,
-    }
-}
-
-pub fn with_im(c: Control, v: u32) -> Control
-    ensures { λ r. ⌜ r ≡ withIM c v ⌝ }
-{
-    Control {
-        ic: c.ic,
-        ir: c.ir,
-        im: v % 16777216,
-        pending: c.pending,
-        pr: c.pr,
-        ex: c.ex,
-        monitor: c.monitor,
-        enabled: c.enabled,
-        reset: c.reset,
-    }
-}
-
-pub fn with_pending(c: Control, v: u32) -> Control
-    ensures { λ r. ⌜ r ≡ withPending c v ⌝ }
-{
-    Control {
-        ic: c.ic,
-        ir: c.ir,
-        im: c.im,
-        pending: v % 16777216,
-        pr: c.pr,
-        ex: c.ex,
-        monitor: c.monitor,
-        enabled: c.enabled,
-        reset: c.reset,
-    }
-}
-
-// PR(0) is always one.
-pub fn with_pr(c: Control, v: u32) -> Control
-    ensures { λ r. ⌜ r ≡ withPR c v ⌝ }
-{
-    Control {
-        ic: c.ic,
-        ir: c.ir,
-        im: c.im,
-        pending: c.pending,
-        pr: 128 + v % 128,
-        ex: c.ex,
-        monitor: c.monitor,
-        enabled: c.enabled,
-        reset: c.reset,
-    }
-}
-
-pub fn with_ex(c: Control, v: u32) -> Control
-    ensures { λ r. ⌜ r ≡ withEX c v ⌝ }
-{
-    Control {
-        ic: c.ic,
-        ir: c.ir,
-        im: c.im,
-        pending: c.pending,
-        pr: c.pr,
-        ex: v % 8,
-        monitor: c.monitor,
-        enabled: c.enabled,
-        reset: c.reset,
-    }
-}
-
-pub fn with_enabled(c: Control, e: bool) -> Control
-    ensures { λ r. ⌜ r ≡ withEnabled c e ⌝ }
-{
-    Control {
-        ic: c.ic,
-        ir: c.ir,
-        im: c.im,
-        pending: c.pending,
-        pr: c.pr,
-        ex: c.ex,
-        monitor: c.monitor,
-        enabled: e,
         reset: c.reset,
     }
 }
@@ -551,29 +382,4 @@ pub fn raise(c: Control, bits: u32) -> Control
     ensures { λ r. ⌜ r ≡ raised c bits ⌝ }
 {
     with_ir(c, c.ir | bits)
-}
-
-// EX(22:23) := 0.
-pub fn clear_flags(c: Control) -> Control
-    ensures { λ r. ⌜ r ≡ flagsCleared c ⌝ }
-{
-    with_ex(c, c.ex / 4 * 4)
-}
-
-// On an overflow EX(22) := IR(bit) := 1.
-pub fn note_overflow(c: Control, over: u32, bit: u32) -> Control
-    ensures { λ r. ⌜ r ≡ overflowed c over bit ⌝ }
-{
-    if over == 0 {
-        return c;
-    }
-    let d = with_ex(c, c.ex / 4 * 4 + 2 + c.ex % 2);
-    raise(d, bit)
-}
-
-// EX(23) := carry.
-pub fn note_carry(c: Control, carry: u32) -> Control
-    ensures { λ r. ⌜ r ≡ carrySet c carry ⌝ }
-{
-    with_ex(c, c.ex / 2 * 2 + carry % 2)
 }

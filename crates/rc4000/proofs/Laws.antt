@@ -1,6 +1,8 @@
 -- What the proof of `run` takes from the tests and from the promises. Assumes nothing.
 use Prim.Native.Nat.{ℕ, _<_}
 use native.Mathlib.Omega.{arith}
+use native.Mathlib.Nat.{mod-eq-of-lt}
+use lib.Bits.{or-zero-r}
 use mathlib.Core.Path.{_≡_, refl, sym, subst, _∙_}
 use mathlib.Core.Bool.{cond}
 use mathlib.Core.List.{List}
@@ -11,7 +13,7 @@ use Rattle.machine.specs.declared.Refusal.{Refusal}
 use Rattle.machine.specs.declared.Refusal.the-variants.{Budget, Lines}
 use Rattle.machine.specs.declared.Verdict.{Verdict}
 use Rattle.machine.specs.declared.Verdict.the-variants.{Accepted, Rejected}
-use Rattle.machine.specs.Fields.{raised}
+use Rattle.machine.specs.Fields.{withIR, raised}
 use Rattle.acceptance.specs.Accept.{judgeMachine, judgeCall, judgeRun}
 use Rattle.definition.specs.Machine.{Machine, machine}
 use Rattle.definition.proofs.Validity.{passed, accepted-valid, valid-accepted}
@@ -40,6 +42,21 @@ pub run-accepted : (s : List ℕ) (c : Control) (l b : ℕ) (x : Ran Machine) �
     → x ≡ runMachine l b (machine s c)
 unfolding judgeRun running runMachine
 run-accepted s c l b x e h = h ∙ sym (call-run inReset cycle judgeOf joined l b (machine s c) (sym e))
+
+-- no lines
+raised-none : (c : Control) (l : ℕ) → l ≡ 0 → c .ir < 16777216 → raised c l ≡ c
+unfolding raised withIR
+raised-none c l e h = rw (e, or-zero-r, mod-eq-of-lt h)
+
+pub fits-unraised : (s : List ℕ) (c : Control) (l b : ℕ) → Accepted ≡ judgeRun s c l b → (judgeMachine s c ≡ Accepted) × (b < 65536)
+unfolding judgeRun
+fits-unraised s c l b e = call-passed (judgeMachine s c) l b (sym e)
+
+pub run-unraised : (s : List ℕ) (c : Control) (l b : ℕ) (x : Ran Machine) → l ≡ 0 → Accepted ≡ judgeRun s c l b → x ≡ running b (machine s c)
+    → x ≡ runMachine l b (machine s c)
+run-unraised s c l b x z e h =
+    let small = accepted-valid (machine s c) (fits-unraised s c l b e .0) .widths .ir in
+    run-accepted s c l b x e (rw (raised-none c l z small) h)
 
 pub run-rejected : (s : List ℕ) (c : Control) (l b : ℕ) (q : Refusal) → Rejected q ≡ judgeRun s c l b → refused q (machine s c) ≡ runMachine l b (machine s c)
 run-rejected s c l b q e = sym (refused-run l b (machine s c) q (sym e))

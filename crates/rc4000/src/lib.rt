@@ -23,8 +23,11 @@ pub fn run(store: &mut [u32], control: Control, lines: u32, budget: u32) -> Run
     let v = acceptance::judge_run(store, control, lines, budget);
     match v {
         Verdict::Accepted => {
-            let d = machine::raise(control, lines);
-            runner::run(store, d, budget)
+            if lines == 0 {
+                runner::run(store, control, budget)
+            } else {
+                runner::run_raised(store, control, lines, budget)
+            }
         }
         Verdict::Rejected(q) => Run {
             control: control,

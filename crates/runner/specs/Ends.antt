@@ -1,18 +1,46 @@
 -- For the functions inside the crate. Whether a run goes on after a cycle, and what it hands back where it does not (document 01, "A run"): an entry ends it interrupted, the reset state reset.
 -- Assumes nothing.
 use Prim.Native.Nat.{ℕ, _+_}
-use mathlib.Core.Bool.{Bool, false, not}
+use mathlib.Core.Bool.{Bool, true, false}
+use mathlib.Core.List.{List}
 use Rattle.machine.specs.declared.Control.{Control}
-use Rattle.machine.specs.declared.CycleEnd.{CycleEnd}
-use Rattle.machine.specs.declared.CycleEnd.the-variants.{Executed, Entered}
-use Rattle.machine.specs.declared.Outcome.the-variants.{Reset, Interrupted}
-use Rattle.machine.specs.declared.Answer.the-variants.{Ended}
+use Rattle.machine.specs.declared.Outcome.the-variants.{Reset, Interrupted, Spent}
+use Rattle.machine.specs.declared.Answer.{Answer}
+use Rattle.machine.specs.declared.Answer.the-variants.{Refused, Ended}
 use Rattle.machine.specs.declared.Run.{Run}
+use Rattle.machine.specs.Records.{resetRecord}
+use Rattle.definition.specs.Machine.{Machine}
+use Rattle.running.specs.Runs.{Ran}
+use Rattle.running.specs.Bridge.{ranOf}
+use Rattle.cycle.specs.declared.CycleEnd.{CycleEnd}
+use Rattle.cycle.specs.declared.CycleEnd.the-variants as cycleEnd
+use Rattle.runner.specs.declared.RunEnd.{RunEnd}
 
-unfoldable pub goesOn : CycleEnd → Control → Bool
-goesOn Executed c = not (c .reset)
-goesOn (Entered k) c = false
+unfoldable pub goesOn : CycleEnd → Bool
+goesOn cycleEnd.Executed = true
+goesOn cycleEnd.Reset = false
+goesOn (cycleEnd.Entered k) = false
 
-unfoldable pub stopped : CycleEnd → Control → ℕ → Run
-stopped Executed c n = record { control = c; answer = Ended Reset; executed = n + 1; entries = 0 }
-stopped (Entered k) c n = record { control = c; answer = Ended (Interrupted k); executed = n; entries = 1 }
+-- the run that ends with this cycle, n instructions before it
+unfoldable pub stopped : CycleEnd → ℕ → RunEnd
+stopped cycleEnd.Executed n = record { answer = Ended Spent; executed = n + 1; entries = 0 }
+stopped cycleEnd.Reset n = record { answer = Ended Reset; executed = n + 1; entries = 0 }
+stopped (cycleEnd.Entered k) n = record { answer = Ended (Interrupted k); executed = n; entries = 1 }
+
+-- the row stands for a machine outside the reset state: the answer tells where the cycles ended in it
+abbrev pub controlAfter : Answer → Control → Control
+controlAfter (Refused q) c = c
+controlAfter (Ended Reset) c = resetRecord c
+controlAfter (Ended (Interrupted k)) c = c
+controlAfter (Ended Spent) c = c
+
+unfoldable pub runOf : RunEnd → Control → Run
+runOf r c = record { control = controlAfter (r .answer) c; answer = r .answer; executed = r .executed; entries = r .entries }
+
+-- how the cycles ended, with cells and control record
+abbrev pub runEndOf : RunEnd → List ℕ → Control → Ran Machine
+runEndOf r s c = ranOf (runOf r c) s
+
+-- a run begun in the reset state: no cycle is made
+abbrev pub begunInReset : Control → Run
+begunInReset c = record { control = c; answer = Ended Reset; executed = 0; entries = 0 }

@@ -1,317 +1,369 @@
 // Jumps, skips and monitor control (14.8): each function does the micro-operations of its meaning, in their order.
 ghost use mathlib.Core.Path.{_≡_};
 ghost use Prim.Native.Nat.{_<_};
-ghost use Rattle.definition.specs.Bridge.{effectOf};
+ghost use Rattle.row.specs.Row.{controlAt, IsRow};
+ghost use Rattle.row.specs.Answers.{ending, endingOf};
 ghost use Rattle.definition.specs.Codes.{executing};
 ghost use Rattle.definition.specs.Meaning.{JL, SH, SL, SE, SN, SO, SZ, SX, SP, JE, JD, IC, IS, ML, MS, XL, XS, PL, PS, KL, KS, IO, AW};
 ghost use Rattle.definition.specs.MicroOps.{skipped};
 use machine::Control;
-use machine::Fault;
-use machine::Performed;
+use machine::WORD;
+use row::End;
+use row::Row;
 
 // if test then IC := IC + 2.
-fn skip_if(c: Control, test: bool) -> Control
-    ensures { λ r. ⌜ r ≡ skipped c test ⌝ }
+fn skip_if(k: &mut Row, test: bool)
+    requires { ⌜ IsRow (now k) ⌝ }
+    ensures value { λ _. ⌜ controlAt (now (k .exit)) ≡ skipped (controlAt (now (k .entry))) test ⌝ }
+    ensures kept { λ _. ⌜ IsRow (now (k .exit)) ⌝ }
 {
     if test {
-        let n = integer::sum24(c.ic, 2);
-        return machine::with_ic(c, n);
+        let a = row::ic(k);
+        let n = integer::sum24(a, 2);
+        row::set_ic(k, n);
     }
-    c
 }
 
 // Jump with Register Link.
-pub fn jl(s: &mut [u32], c: Control, w: u32, sb: u32) -> Performed
-    ensures { λ r. ⌜ effectOf r (now (s .exit)) ≡ executing JL w sb (now (s .entry)) c ⌝ }
+pub fn jl(s: &mut [u32], k: &mut Row, w: u32, sb: u32) -> End
+    requires { ⌜ IsRow (now k) ⌝ }
+    ensures value { λ r. ⌜ endingOf r (now (s .exit)) (controlAt (now (k .exit))) ≡ ending (executing JL w sb (now (s .entry)) (controlAt (now (k .entry)))) ⌝ }
+    ensures kept { λ _. ⌜ IsRow (now (k .exit)) ⌝ }
 {
     if machine::is_absent(s, sb) {
-        return Performed::faulted(c, Fault::Absent(sb));
+        return End::Faulted;
     }
-    if machine::is_violation(s, c, sb / 2) {
-        return Performed::faulted(c, Fault::Jump(sb));
+    if row::is_violation(s, k, sb / 2) {
+        return End::Faulted;
     }
-    machine::put_link(s, w, c.ic);
-    let d = machine::with_ic(c, sb / 2 * 2);
-    Performed::done(d)
+    let n = row::ic(k);
+    machine::put_link(s, w, n);
+    row::set_ic(k, sb / 2 * 2);
+    End::Done
 }
 
 // Skip if Register High.
-pub fn sh(s: &mut [u32], c: Control, w: u32, sb: u32) -> Performed
-    requires { ⌜ sb < 16777216 ⌝ }
-    ensures { λ r. ⌜ effectOf r (now (s .exit)) ≡ executing SH w sb (now (s .entry)) c ⌝ }
+pub fn sh(s: &mut [u32], k: &mut Row, w: u32, sb: u32) -> End
+    requires { ⌜ (sb < 16777216) × IsRow (now k) ⌝ }
+    ensures value { λ r. ⌜ endingOf r (now (s .exit)) (controlAt (now (k .exit))) ≡ ending (executing SH w sb (now (s .entry)) (controlAt (now (k .entry)))) ⌝ }
+    ensures kept { λ _. ⌜ IsRow (now (k .exit)) ⌝ }
 {
     let x = machine::word_at(s, w);
     let t = integer::is_high(x, sb);
-    let d = skip_if(c, t);
-    Performed::done(d)
+    skip_if(k, t);
+    End::Done
 }
 
 // Skip if Register Low.
-pub fn sl(s: &mut [u32], c: Control, w: u32, sb: u32) -> Performed
-    requires { ⌜ sb < 16777216 ⌝ }
-    ensures { λ r. ⌜ effectOf r (now (s .exit)) ≡ executing SL w sb (now (s .entry)) c ⌝ }
+pub fn sl(s: &mut [u32], k: &mut Row, w: u32, sb: u32) -> End
+    requires { ⌜ (sb < 16777216) × IsRow (now k) ⌝ }
+    ensures value { λ r. ⌜ endingOf r (now (s .exit)) (controlAt (now (k .exit))) ≡ ending (executing SL w sb (now (s .entry)) (controlAt (now (k .entry)))) ⌝ }
+    ensures kept { λ _. ⌜ IsRow (now (k .exit)) ⌝ }
 {
     let x = machine::word_at(s, w);
     let t = integer::is_low(x, sb);
-    let d = skip_if(c, t);
-    Performed::done(d)
+    skip_if(k, t);
+    End::Done
 }
 
 // Skip if Register Equal.
-pub fn se(s: &mut [u32], c: Control, w: u32, sb: u32) -> Performed
-    requires { ⌜ sb < 16777216 ⌝ }
-    ensures { λ r. ⌜ effectOf r (now (s .exit)) ≡ executing SE w sb (now (s .entry)) c ⌝ }
+pub fn se(s: &mut [u32], k: &mut Row, w: u32, sb: u32) -> End
+    requires { ⌜ (sb < 16777216) × IsRow (now k) ⌝ }
+    ensures value { λ r. ⌜ endingOf r (now (s .exit)) (controlAt (now (k .exit))) ≡ ending (executing SE w sb (now (s .entry)) (controlAt (now (k .entry)))) ⌝ }
+    ensures kept { λ _. ⌜ IsRow (now (k .exit)) ⌝ }
 {
     let x = machine::word_at(s, w);
     let t = integer::is_equal(x, sb);
-    let d = skip_if(c, t);
-    Performed::done(d)
+    skip_if(k, t);
+    End::Done
 }
 
 // Skip if Register Not Equal.
-pub fn sn(s: &mut [u32], c: Control, w: u32, sb: u32) -> Performed
-    requires { ⌜ sb < 16777216 ⌝ }
-    ensures { λ r. ⌜ effectOf r (now (s .exit)) ≡ executing SN w sb (now (s .entry)) c ⌝ }
+pub fn sn(s: &mut [u32], k: &mut Row, w: u32, sb: u32) -> End
+    requires { ⌜ (sb < 16777216) × IsRow (now k) ⌝ }
+    ensures value { λ r. ⌜ endingOf r (now (s .exit)) (controlAt (now (k .exit))) ≡ ending (executing SN w sb (now (s .entry)) (controlAt (now (k .entry)))) ⌝ }
+    ensures kept { λ _. ⌜ IsRow (now (k .exit)) ⌝ }
 {
     let x = machine::word_at(s, w);
     let t = integer::is_not_equal(x, sb);
-    let d = skip_if(c, t);
-    Performed::done(d)
+    skip_if(k, t);
+    End::Done
 }
 
 // Skip if Register Bits One.
-pub fn so(s: &mut [u32], c: Control, w: u32, sb: u32) -> Performed
-    requires { ⌜ sb < 16777216 ⌝ }
-    ensures { λ r. ⌜ effectOf r (now (s .exit)) ≡ executing SO w sb (now (s .entry)) c ⌝ }
+pub fn so(s: &mut [u32], k: &mut Row, w: u32, sb: u32) -> End
+    requires { ⌜ (sb < 16777216) × IsRow (now k) ⌝ }
+    ensures value { λ r. ⌜ endingOf r (now (s .exit)) (controlAt (now (k .exit))) ≡ ending (executing SO w sb (now (s .entry)) (controlAt (now (k .entry)))) ⌝ }
+    ensures kept { λ _. ⌜ IsRow (now (k .exit)) ⌝ }
 {
     let x = machine::word_at(s, w);
     let t = integer::bits_one(x, sb);
-    let d = skip_if(c, t);
-    Performed::done(d)
+    skip_if(k, t);
+    End::Done
 }
 
 // Skip if Register Bits Zero.
-pub fn sz(s: &mut [u32], c: Control, w: u32, sb: u32) -> Performed
-    requires { ⌜ sb < 16777216 ⌝ }
-    ensures { λ r. ⌜ effectOf r (now (s .exit)) ≡ executing SZ w sb (now (s .entry)) c ⌝ }
+pub fn sz(s: &mut [u32], k: &mut Row, w: u32, sb: u32) -> End
+    requires { ⌜ (sb < 16777216) × IsRow (now k) ⌝ }
+    ensures value { λ r. ⌜ endingOf r (now (s .exit)) (controlAt (now (k .exit))) ≡ ending (executing SZ w sb (now (s .entry)) (controlAt (now (k .entry)))) ⌝ }
+    ensures kept { λ _. ⌜ IsRow (now (k .exit)) ⌝ }
 {
     let x = machine::word_at(s, w);
     let t = integer::bits_zero(x, sb);
-    let d = skip_if(c, t);
-    Performed::done(d)
+    skip_if(k, t);
+    End::Done
 }
 
 // Skip if No Exceptions.
-pub fn sx(s: &mut [u32], c: Control, w: u32, sb: u32) -> Performed
-    requires { ⌜ sb < 16777216 ⌝ }
-    ensures { λ r. ⌜ effectOf r (now (s .exit)) ≡ executing SX w sb (now (s .entry)) c ⌝ }
+pub fn sx(s: &mut [u32], k: &mut Row, w: u32, sb: u32) -> End
+    requires { ⌜ (sb < 16777216) × IsRow (now k) ⌝ }
+    ensures value { λ r. ⌜ endingOf r (now (s .exit)) (controlAt (now (k .exit))) ≡ ending (executing SX w sb (now (s .entry)) (controlAt (now (k .entry)))) ⌝ }
+    ensures kept { λ _. ⌜ IsRow (now (k .exit)) ⌝ }
 {
-    let t = integer::bits_zero(c.ex % 8, sb);
-    let d = skip_if(c, t);
-    Performed::done(d)
+    let x = row::ex(k);
+    let t = integer::bits_zero(x % 8, sb);
+    skip_if(k, t);
+    End::Done
 }
 
 // Skip if No Protection.
-pub fn sp(s: &mut [u32], c: Control, w: u32, sb: u32) -> Performed
-    ensures { λ r. ⌜ effectOf r (now (s .exit)) ≡ executing SP w sb (now (s .entry)) c ⌝ }
+pub fn sp(s: &mut [u32], k: &mut Row, w: u32, sb: u32) -> End
+    requires { ⌜ IsRow (now k) ⌝ }
+    ensures value { λ r. ⌜ endingOf r (now (s .exit)) (controlAt (now (k .exit))) ≡ ending (executing SP w sb (now (s .entry)) (controlAt (now (k .entry)))) ⌝ }
+    ensures kept { λ _. ⌜ IsRow (now (k .exit)) ⌝ }
 {
     if machine::is_absent(s, sb) {
-        return Performed::faulted(c, Fault::Absent(sb));
+        return End::Faulted;
     }
-    let p = machine::is_forbidden(s, c, sb / 2);
-    let d = skip_if(c, !p);
-    Performed::done(d)
+    let p = row::is_forbidden(s, k, sb / 2);
+    skip_if(k, !p);
+    End::Done
 }
 
 // Jump with Interrupt Enabled.
-pub fn je(s: &mut [u32], c: Control, w: u32, sb: u32) -> Performed
-    ensures { λ r. ⌜ effectOf r (now (s .exit)) ≡ executing JE w sb (now (s .entry)) c ⌝ }
+pub fn je(s: &mut [u32], k: &mut Row, w: u32, sb: u32) -> End
+    requires { ⌜ IsRow (now k) ⌝ }
+    ensures value { λ r. ⌜ endingOf r (now (s .exit)) (controlAt (now (k .exit))) ≡ ending (executing JE w sb (now (s .entry)) (controlAt (now (k .entry)))) ⌝ }
+    ensures kept { λ _. ⌜ IsRow (now (k .exit)) ⌝ }
 {
-    if machine::is_task(c) {
-        return Performed::faulted(c, Fault::Privileged);
+    if row::is_task(k) {
+        return End::Faulted;
     }
     if machine::is_absent(s, sb) {
-        return Performed::faulted(c, Fault::Absent(sb));
+        return End::Faulted;
     }
-    let d = machine::with_enabled(c, true);
-    machine::put_link(s, w, d.ic);
-    let e = machine::with_ic(d, sb / 2 * 2);
-    Performed::done(e)
+    row::set_enabled(k, true);
+    let n = row::ic(k);
+    machine::put_link(s, w, n);
+    row::set_ic(k, sb / 2 * 2);
+    End::Done
 }
 
 // Jump with Interrupt Disabled.
-pub fn jd(s: &mut [u32], c: Control, w: u32, sb: u32) -> Performed
-    ensures { λ r. ⌜ effectOf r (now (s .exit)) ≡ executing JD w sb (now (s .entry)) c ⌝ }
+pub fn jd(s: &mut [u32], k: &mut Row, w: u32, sb: u32) -> End
+    requires { ⌜ IsRow (now k) ⌝ }
+    ensures value { λ r. ⌜ endingOf r (now (s .exit)) (controlAt (now (k .exit))) ≡ ending (executing JD w sb (now (s .entry)) (controlAt (now (k .entry)))) ⌝ }
+    ensures kept { λ _. ⌜ IsRow (now (k .exit)) ⌝ }
 {
-    if machine::is_task(c) {
-        return Performed::faulted(c, Fault::Privileged);
+    if row::is_task(k) {
+        return End::Faulted;
     }
     if machine::is_absent(s, sb) {
-        return Performed::faulted(c, Fault::Absent(sb));
+        return End::Faulted;
     }
-    let d = machine::with_enabled(c, false);
-    machine::put_link(s, w, d.ic);
-    let e = machine::with_ic(d, sb / 2 * 2);
-    Performed::done(e)
+    row::set_enabled(k, false);
+    let n = row::ic(k);
+    machine::put_link(s, w, n);
+    row::set_ic(k, sb / 2 * 2);
+    End::Done
 }
 
 // Clear Interrupt Bits.
-pub fn ic(s: &mut [u32], c: Control, w: u32, sb: u32) -> Performed
-    requires { ⌜ sb < 16777216 ⌝ }
-    ensures { λ r. ⌜ effectOf r (now (s .exit)) ≡ executing IC w sb (now (s .entry)) c ⌝ }
+pub fn ic(s: &mut [u32], k: &mut Row, w: u32, sb: u32) -> End
+    requires { ⌜ (sb < 16777216) × IsRow (now k) ⌝ }
+    ensures value { λ r. ⌜ endingOf r (now (s .exit)) (controlAt (now (k .exit))) ≡ ending (executing IC w sb (now (s .entry)) (controlAt (now (k .entry)))) ⌝ }
+    ensures kept { λ _. ⌜ IsRow (now (k .exit)) ⌝ }
 {
-    if machine::is_task(c) {
-        return Performed::faulted(c, Fault::Privileged);
+    if row::is_task(k) {
+        return End::Faulted;
     }
-    let r = integer::clear24(c.ir % 16777216, sb);
-    let d = machine::with_ir(c, r);
-    Performed::done(d)
+    let x = row::ir(k);
+    let r = integer::clear24(x % WORD, sb);
+    row::set_ir(k, r);
+    End::Done
 }
 
 // Store Interrupt Register.
-pub fn is(s: &mut [u32], c: Control, w: u32, sb: u32) -> Performed
-    ensures { λ r. ⌜ effectOf r (now (s .exit)) ≡ executing IS w sb (now (s .entry)) c ⌝ }
+pub fn is(s: &mut [u32], k: &mut Row, w: u32, sb: u32) -> End
+    requires { ⌜ IsRow (now k) ⌝ }
+    ensures value { λ r. ⌜ endingOf r (now (s .exit)) (controlAt (now (k .exit))) ≡ ending (executing IS w sb (now (s .entry)) (controlAt (now (k .entry)))) ⌝ }
+    ensures kept { λ _. ⌜ IsRow (now (k .exit)) ⌝ }
 {
     if machine::is_absent(s, sb) {
-        return Performed::faulted(c, Fault::Absent(sb));
+        return End::Faulted;
     }
-    if machine::is_violation(s, c, sb / 2) {
-        return Performed::faulted(c, Fault::Store(sb));
+    if row::is_violation(s, k, sb / 2) {
+        return End::Faulted;
     }
-    machine::put_word(s, sb / 2, c.ir);
-    Performed::done(c)
+    let x = row::ir(k);
+    machine::put_word(s, sb / 2, x);
+    End::Done
 }
 
 // Load Mask Register: IM(0) is always one.
-pub fn ml(s: &mut [u32], c: Control, w: u32, sb: u32) -> Performed
-    ensures { λ r. ⌜ effectOf r (now (s .exit)) ≡ executing ML w sb (now (s .entry)) c ⌝ }
+pub fn ml(s: &mut [u32], k: &mut Row, w: u32, sb: u32) -> End
+    requires { ⌜ IsRow (now k) ⌝ }
+    ensures value { λ r. ⌜ endingOf r (now (s .exit)) (controlAt (now (k .exit))) ≡ ending (executing ML w sb (now (s .entry)) (controlAt (now (k .entry)))) ⌝ }
+    ensures kept { λ _. ⌜ IsRow (now (k .exit)) ⌝ }
 {
-    if machine::is_task(c) {
-        return Performed::faulted(c, Fault::Privileged);
+    if row::is_task(k) {
+        return End::Faulted;
     }
     if machine::is_absent(s, sb) {
-        return Performed::faulted(c, Fault::Absent(sb));
+        return End::Faulted;
     }
     let y = machine::word_at(s, sb / 2);
-    let d = machine::with_im(c, 8388608 + y % 8388608);
-    Performed::done(d)
+    row::set_im(k, 8388608 + y % 8388608);
+    End::Done
 }
 
 // Store Mask Register.
-pub fn ms(s: &mut [u32], c: Control, w: u32, sb: u32) -> Performed
-    ensures { λ r. ⌜ effectOf r (now (s .exit)) ≡ executing MS w sb (now (s .entry)) c ⌝ }
+pub fn ms(s: &mut [u32], k: &mut Row, w: u32, sb: u32) -> End
+    requires { ⌜ IsRow (now k) ⌝ }
+    ensures value { λ r. ⌜ endingOf r (now (s .exit)) (controlAt (now (k .exit))) ≡ ending (executing MS w sb (now (s .entry)) (controlAt (now (k .entry)))) ⌝ }
+    ensures kept { λ _. ⌜ IsRow (now (k .exit)) ⌝ }
 {
     if machine::is_absent(s, sb) {
-        return Performed::faulted(c, Fault::Absent(sb));
+        return End::Faulted;
     }
-    if machine::is_violation(s, c, sb / 2) {
-        return Performed::faulted(c, Fault::Store(sb));
+    if row::is_violation(s, k, sb / 2) {
+        return End::Faulted;
     }
-    machine::put_word(s, sb / 2, c.im);
-    Performed::done(c)
+    let x = row::im(k);
+    machine::put_word(s, sb / 2, x);
+    End::Done
 }
 
 // Load Exception Register.
-pub fn xl(s: &mut [u32], c: Control, w: u32, sb: u32) -> Performed
-    ensures { λ r. ⌜ effectOf r (now (s .exit)) ≡ executing XL w sb (now (s .entry)) c ⌝ }
+pub fn xl(s: &mut [u32], k: &mut Row, w: u32, sb: u32) -> End
+    requires { ⌜ IsRow (now k) ⌝ }
+    ensures value { λ r. ⌜ endingOf r (now (s .exit)) (controlAt (now (k .exit))) ≡ ending (executing XL w sb (now (s .entry)) (controlAt (now (k .entry)))) ⌝ }
+    ensures kept { λ _. ⌜ IsRow (now (k .exit)) ⌝ }
 {
     if machine::is_absent(s, sb) {
-        return Performed::faulted(c, Fault::Absent(sb));
+        return End::Faulted;
     }
     let b = machine::byte_at(s, sb);
-    let d = machine::with_ex(c, b);
-    Performed::done(d)
+    row::set_ex(k, b);
+    End::Done
 }
 
 // Store Exception Register.
-pub fn xs(s: &mut [u32], c: Control, w: u32, sb: u32) -> Performed
-    ensures { λ r. ⌜ effectOf r (now (s .exit)) ≡ executing XS w sb (now (s .entry)) c ⌝ }
+pub fn xs(s: &mut [u32], k: &mut Row, w: u32, sb: u32) -> End
+    requires { ⌜ IsRow (now k) ⌝ }
+    ensures value { λ r. ⌜ endingOf r (now (s .exit)) (controlAt (now (k .exit))) ≡ ending (executing XS w sb (now (s .entry)) (controlAt (now (k .entry)))) ⌝ }
+    ensures kept { λ _. ⌜ IsRow (now (k .exit)) ⌝ }
 {
     if machine::is_absent(s, sb) {
-        return Performed::faulted(c, Fault::Absent(sb));
+        return End::Faulted;
     }
-    if machine::is_violation(s, c, sb / 2) {
-        return Performed::faulted(c, Fault::Store(sb));
+    if row::is_violation(s, k, sb / 2) {
+        return End::Faulted;
     }
-    machine::put_byte(s, sb, c.ex);
-    Performed::done(c)
+    let x = row::ex(k);
+    machine::put_byte(s, sb, x);
+    End::Done
 }
 
 // Load Protection Register.
-pub fn pl(s: &mut [u32], c: Control, w: u32, sb: u32) -> Performed
-    ensures { λ r. ⌜ effectOf r (now (s .exit)) ≡ executing PL w sb (now (s .entry)) c ⌝ }
+pub fn pl(s: &mut [u32], k: &mut Row, w: u32, sb: u32) -> End
+    requires { ⌜ IsRow (now k) ⌝ }
+    ensures value { λ r. ⌜ endingOf r (now (s .exit)) (controlAt (now (k .exit))) ≡ ending (executing PL w sb (now (s .entry)) (controlAt (now (k .entry)))) ⌝ }
+    ensures kept { λ _. ⌜ IsRow (now (k .exit)) ⌝ }
 {
-    if machine::is_task(c) {
-        return Performed::faulted(c, Fault::Privileged);
+    if row::is_task(k) {
+        return End::Faulted;
     }
     if machine::is_absent(s, sb) {
-        return Performed::faulted(c, Fault::Absent(sb));
+        return End::Faulted;
     }
     let b = machine::byte_at(s, sb);
-    let d = machine::with_pr(c, b);
-    Performed::done(d)
+    row::set_pr(k, b);
+    End::Done
 }
 
 // Store Protection Register.
-pub fn ps(s: &mut [u32], c: Control, w: u32, sb: u32) -> Performed
-    ensures { λ r. ⌜ effectOf r (now (s .exit)) ≡ executing PS w sb (now (s .entry)) c ⌝ }
+pub fn ps(s: &mut [u32], k: &mut Row, w: u32, sb: u32) -> End
+    requires { ⌜ IsRow (now k) ⌝ }
+    ensures value { λ r. ⌜ endingOf r (now (s .exit)) (controlAt (now (k .exit))) ≡ ending (executing PS w sb (now (s .entry)) (controlAt (now (k .entry)))) ⌝ }
+    ensures kept { λ _. ⌜ IsRow (now (k .exit)) ⌝ }
 {
     if machine::is_absent(s, sb) {
-        return Performed::faulted(c, Fault::Absent(sb));
+        return End::Faulted;
     }
-    if machine::is_violation(s, c, sb / 2) {
-        return Performed::faulted(c, Fault::Store(sb));
+    if row::is_violation(s, k, sb / 2) {
+        return End::Faulted;
     }
-    machine::put_byte(s, sb, c.pr);
-    Performed::done(c)
+    let x = row::pr(k);
+    machine::put_byte(s, sb, x);
+    End::Done
 }
 
 // Load Protection Key.
-pub fn kl(s: &mut [u32], c: Control, w: u32, sb: u32) -> Performed
-    ensures { λ r. ⌜ effectOf r (now (s .exit)) ≡ executing KL w sb (now (s .entry)) c ⌝ }
+pub fn kl(s: &mut [u32], k: &mut Row, w: u32, sb: u32) -> End
+    requires { ⌜ IsRow (now k) ⌝ }
+    ensures value { λ r. ⌜ endingOf r (now (s .exit)) (controlAt (now (k .exit))) ≡ ending (executing KL w sb (now (s .entry)) (controlAt (now (k .entry)))) ⌝ }
+    ensures kept { λ _. ⌜ IsRow (now (k .exit)) ⌝ }
 {
     if machine::is_absent(s, sb) {
-        return Performed::faulted(c, Fault::Absent(sb));
+        return End::Faulted;
     }
-    let k = machine::key_at(s, sb / 2);
-    machine::put_word(s, w, k);
-    Performed::done(c)
+    let q = machine::key_at(s, sb / 2);
+    machine::put_word(s, w, q);
+    End::Done
 }
 
 // Store Protection Key.
-pub fn ks(s: &mut [u32], c: Control, w: u32, sb: u32) -> Performed
-    ensures { λ r. ⌜ effectOf r (now (s .exit)) ≡ executing KS w sb (now (s .entry)) c ⌝ }
+pub fn ks(s: &mut [u32], k: &mut Row, w: u32, sb: u32) -> End
+    requires { ⌜ IsRow (now k) ⌝ }
+    ensures value { λ r. ⌜ endingOf r (now (s .exit)) (controlAt (now (k .exit))) ≡ ending (executing KS w sb (now (s .entry)) (controlAt (now (k .entry)))) ⌝ }
+    ensures kept { λ _. ⌜ IsRow (now (k .exit)) ⌝ }
 {
-    if machine::is_task(c) {
-        return Performed::faulted(c, Fault::Privileged);
+    if row::is_task(k) {
+        return End::Faulted;
     }
     if machine::is_absent(s, sb) {
-        return Performed::faulted(c, Fault::Absent(sb));
+        return End::Faulted;
     }
     let x = machine::word_at(s, w);
     machine::put_key(s, sb / 2, x);
-    Performed::done(c)
+    End::Done
 }
 
 // Input/Output: every device is disconnected.
-pub fn io(s: &mut [u32], c: Control, w: u32, sb: u32) -> Performed
-    ensures { λ r. ⌜ effectOf r (now (s .exit)) ≡ executing IO w sb (now (s .entry)) c ⌝ }
+pub fn io(s: &mut [u32], k: &mut Row, w: u32, sb: u32) -> End
+    requires { ⌜ IsRow (now k) ⌝ }
+    ensures value { λ r. ⌜ endingOf r (now (s .exit)) (controlAt (now (k .exit))) ≡ ending (executing IO w sb (now (s .entry)) (controlAt (now (k .entry)))) ⌝ }
+    ensures kept { λ _. ⌜ IsRow (now (k .exit)) ⌝ }
 {
-    if machine::is_task(c) {
-        return Performed::faulted(c, Fault::Privileged);
+    if row::is_task(k) {
+        return End::Faulted;
     }
-    let d = machine::with_ex(c, c.ex / 4 * 4 + 2);
-    Performed::done(d)
+    let x = row::ex(k);
+    row::set_ex(k, x / 4 * 4 + 2);
+    End::Done
 }
 
 // Autoload Word: device 0 is disconnected, so the system is reset.
-pub fn aw(s: &mut [u32], c: Control, w: u32, sb: u32) -> Performed
-    ensures { λ r. ⌜ effectOf r (now (s .exit)) ≡ executing AW w sb (now (s .entry)) c ⌝ }
+pub fn aw(s: &mut [u32], k: &mut Row, w: u32, sb: u32) -> End
+    requires { ⌜ IsRow (now k) ⌝ }
+    ensures value { λ r. ⌜ endingOf r (now (s .exit)) (controlAt (now (k .exit))) ≡ ending (executing AW w sb (now (s .entry)) (controlAt (now (k .entry)))) ⌝ }
+    ensures kept { λ _. ⌜ IsRow (now (k .exit)) ⌝ }
 {
-    if machine::is_task(c) {
-        return Performed::faulted(c, Fault::Privileged);
+    if row::is_task(k) {
+        return End::Faulted;
     }
-    machine::put_word(s, Control::RETURN_ADDRESS / 2, c.ic);
-    let d = c.in_reset();
-    Performed::done(d)
+    let n = row::ic(k);
+    machine::put_word(s, Control::RETURN_ADDRESS / 2, n);
+    End::Reset
 }

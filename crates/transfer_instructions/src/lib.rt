@@ -1,13 +1,13 @@
 // Address handling, register transfer and byte transfer (14.8): each function does the micro-operations of its meaning, in their order.
 ghost use mathlib.Core.Path.{_≡_};
 ghost use Prim.Native.Nat.{_<_};
-ghost use Rattle.definition.specs.Bridge.{effectOf};
+ghost use Rattle.row.specs.Row.{controlAt, IsRow};
+ghost use Rattle.row.specs.Answers.{ending, endingOf};
 ghost use Rattle.definition.specs.Codes.{executing};
 ghost use Rattle.definition.specs.Meaning.{AM, AL, HL, HS, RL, RS, RX, DL, DS, BZ, BL};
 ghost use Rattle.definition.specs.Operands.{extended};
-use machine::Control;
-use machine::Fault;
-use machine::Performed;
+use row::End;
+use row::Row;
 
 // signed byte.
 pub fn extend(b: u32) -> u32
@@ -19,99 +19,115 @@ pub fn extend(b: u32) -> u32
 }
 
 // Modify Next Address.
-pub fn am(s: &mut [u32], c: Control, w: u32, sb: u32) -> Performed
-    ensures { λ r. ⌜ effectOf r (now (s .exit)) ≡ executing AM w sb (now (s .entry)) c ⌝ }
+pub fn am(s: &mut [u32], k: &mut Row, w: u32, sb: u32) -> End
+    requires { ⌜ IsRow (now k) ⌝ }
+    ensures value { λ r. ⌜ endingOf r (now (s .exit)) (controlAt (now (k .exit))) ≡ ending (executing AM w sb (now (s .entry)) (controlAt (now (k .entry)))) ⌝ }
+    ensures kept { λ _. ⌜ IsRow (now (k .exit)) ⌝ }
 {
-    let d = machine::with_pending(c, sb);
-    Performed::done(d)
+    row::set_pending(k, sb);
+    End::Done
 }
 
 // Load Address.
-pub fn al(s: &mut [u32], c: Control, w: u32, sb: u32) -> Performed
-    ensures { λ r. ⌜ effectOf r (now (s .exit)) ≡ executing AL w sb (now (s .entry)) c ⌝ }
+pub fn al(s: &mut [u32], k: &mut Row, w: u32, sb: u32) -> End
+    requires { ⌜ IsRow (now k) ⌝ }
+    ensures value { λ r. ⌜ endingOf r (now (s .exit)) (controlAt (now (k .exit))) ≡ ending (executing AL w sb (now (s .entry)) (controlAt (now (k .entry)))) ⌝ }
+    ensures kept { λ _. ⌜ IsRow (now (k .exit)) ⌝ }
 {
     machine::put_word(s, w, sb);
-    Performed::done(c)
+    End::Done
 }
 
 // Load Half Register.
-pub fn hl(s: &mut [u32], c: Control, w: u32, sb: u32) -> Performed
-    ensures { λ r. ⌜ effectOf r (now (s .exit)) ≡ executing HL w sb (now (s .entry)) c ⌝ }
+pub fn hl(s: &mut [u32], k: &mut Row, w: u32, sb: u32) -> End
+    requires { ⌜ IsRow (now k) ⌝ }
+    ensures value { λ r. ⌜ endingOf r (now (s .exit)) (controlAt (now (k .exit))) ≡ ending (executing HL w sb (now (s .entry)) (controlAt (now (k .entry)))) ⌝ }
+    ensures kept { λ _. ⌜ IsRow (now (k .exit)) ⌝ }
 {
     if machine::is_absent(s, sb) {
-        return Performed::faulted(c, Fault::Absent(sb));
+        return End::Faulted;
     }
     let x = machine::word_at(s, w);
     let b = machine::byte_at(s, sb);
     machine::put_word(s, w, x / 4096 * 4096 + b);
-    Performed::done(c)
+    End::Done
 }
 
 // Store Half Register.
-pub fn hs(s: &mut [u32], c: Control, w: u32, sb: u32) -> Performed
-    ensures { λ r. ⌜ effectOf r (now (s .exit)) ≡ executing HS w sb (now (s .entry)) c ⌝ }
+pub fn hs(s: &mut [u32], k: &mut Row, w: u32, sb: u32) -> End
+    requires { ⌜ IsRow (now k) ⌝ }
+    ensures value { λ r. ⌜ endingOf r (now (s .exit)) (controlAt (now (k .exit))) ≡ ending (executing HS w sb (now (s .entry)) (controlAt (now (k .entry)))) ⌝ }
+    ensures kept { λ _. ⌜ IsRow (now (k .exit)) ⌝ }
 {
     if machine::is_absent(s, sb) {
-        return Performed::faulted(c, Fault::Absent(sb));
+        return End::Faulted;
     }
-    if machine::is_violation(s, c, sb / 2) {
-        return Performed::faulted(c, Fault::Store(sb));
+    if row::is_violation(s, k, sb / 2) {
+        return End::Faulted;
     }
     let x = machine::word_at(s, w);
     machine::put_byte(s, sb, x);
-    Performed::done(c)
+    End::Done
 }
 
 // Load Register.
-pub fn rl(s: &mut [u32], c: Control, w: u32, sb: u32) -> Performed
-    ensures { λ r. ⌜ effectOf r (now (s .exit)) ≡ executing RL w sb (now (s .entry)) c ⌝ }
+pub fn rl(s: &mut [u32], k: &mut Row, w: u32, sb: u32) -> End
+    requires { ⌜ IsRow (now k) ⌝ }
+    ensures value { λ r. ⌜ endingOf r (now (s .exit)) (controlAt (now (k .exit))) ≡ ending (executing RL w sb (now (s .entry)) (controlAt (now (k .entry)))) ⌝ }
+    ensures kept { λ _. ⌜ IsRow (now (k .exit)) ⌝ }
 {
     if machine::is_absent(s, sb) {
-        return Performed::faulted(c, Fault::Absent(sb));
+        return End::Faulted;
     }
     let y = machine::word_at(s, sb / 2);
     machine::put_word(s, w, y);
-    Performed::done(c)
+    End::Done
 }
 
 // Store Register.
-pub fn rs(s: &mut [u32], c: Control, w: u32, sb: u32) -> Performed
-    ensures { λ r. ⌜ effectOf r (now (s .exit)) ≡ executing RS w sb (now (s .entry)) c ⌝ }
+pub fn rs(s: &mut [u32], k: &mut Row, w: u32, sb: u32) -> End
+    requires { ⌜ IsRow (now k) ⌝ }
+    ensures value { λ r. ⌜ endingOf r (now (s .exit)) (controlAt (now (k .exit))) ≡ ending (executing RS w sb (now (s .entry)) (controlAt (now (k .entry)))) ⌝ }
+    ensures kept { λ _. ⌜ IsRow (now (k .exit)) ⌝ }
 {
     if machine::is_absent(s, sb) {
-        return Performed::faulted(c, Fault::Absent(sb));
+        return End::Faulted;
     }
-    if machine::is_violation(s, c, sb / 2) {
-        return Performed::faulted(c, Fault::Store(sb));
+    if row::is_violation(s, k, sb / 2) {
+        return End::Faulted;
     }
     let x = machine::word_at(s, w);
     machine::put_word(s, sb / 2, x);
-    Performed::done(c)
+    End::Done
 }
 
 // Exchange Register and Store: W is loaded before Test Protection.
-pub fn rx(s: &mut [u32], c: Control, w: u32, sb: u32) -> Performed
-    ensures { λ r. ⌜ effectOf r (now (s .exit)) ≡ executing RX w sb (now (s .entry)) c ⌝ }
+pub fn rx(s: &mut [u32], k: &mut Row, w: u32, sb: u32) -> End
+    requires { ⌜ IsRow (now k) ⌝ }
+    ensures value { λ r. ⌜ endingOf r (now (s .exit)) (controlAt (now (k .exit))) ≡ ending (executing RX w sb (now (s .entry)) (controlAt (now (k .entry)))) ⌝ }
+    ensures kept { λ _. ⌜ IsRow (now (k .exit)) ⌝ }
 {
     if machine::is_absent(s, sb) {
-        return Performed::faulted(c, Fault::Absent(sb));
+        return End::Faulted;
     }
     let x = machine::word_at(s, w);
     let y = machine::word_at(s, sb / 2);
     machine::put_word(s, w, y);
-    if machine::is_violation(s, c, sb / 2) {
-        return Performed::faulted(c, Fault::Store(sb));
+    if row::is_violation(s, k, sb / 2) {
+        return End::Faulted;
     }
     machine::put_word(s, sb / 2, x);
-    Performed::done(c)
+    End::Done
 }
 
 // Load Double Register: the first word is read after W was written.
-pub fn dl(s: &mut [u32], c: Control, w: u32, sb: u32) -> Performed
-    ensures { λ r. ⌜ effectOf r (now (s .exit)) ≡ executing DL w sb (now (s .entry)) c ⌝ }
+pub fn dl(s: &mut [u32], k: &mut Row, w: u32, sb: u32) -> End
+    requires { ⌜ IsRow (now k) ⌝ }
+    ensures value { λ r. ⌜ endingOf r (now (s .exit)) (controlAt (now (k .exit))) ≡ ending (executing DL w sb (now (s .entry)) (controlAt (now (k .entry)))) ⌝ }
+    ensures kept { λ _. ⌜ IsRow (now (k .exit)) ⌝ }
 {
     if machine::is_absent(s, sb) {
-        return Performed::faulted(c, Fault::Absent(sb));
+        return End::Faulted;
     }
     let y = machine::word_at(s, sb / 2);
     machine::put_word(s, w, y);
@@ -119,52 +135,58 @@ pub fn dl(s: &mut [u32], c: Control, w: u32, sb: u32) -> Performed
     let u = machine::word_at(s, a / 2);
     let p = machine::previous_register(w);
     machine::put_word(s, p, u);
-    Performed::done(c)
+    End::Done
 }
 
 // Store Double Register: the second word is tested and written, then the first.
-pub fn ds(s: &mut [u32], c: Control, w: u32, sb: u32) -> Performed
-    ensures { λ r. ⌜ effectOf r (now (s .exit)) ≡ executing DS w sb (now (s .entry)) c ⌝ }
+pub fn ds(s: &mut [u32], k: &mut Row, w: u32, sb: u32) -> End
+    requires { ⌜ IsRow (now k) ⌝ }
+    ensures value { λ r. ⌜ endingOf r (now (s .exit)) (controlAt (now (k .exit))) ≡ ending (executing DS w sb (now (s .entry)) (controlAt (now (k .entry)))) ⌝ }
+    ensures kept { λ _. ⌜ IsRow (now (k .exit)) ⌝ }
 {
     if machine::is_absent(s, sb) {
-        return Performed::faulted(c, Fault::Absent(sb));
+        return End::Faulted;
     }
-    if machine::is_violation(s, c, sb / 2) {
-        return Performed::faulted(c, Fault::Store(sb));
+    if row::is_violation(s, k, sb / 2) {
+        return End::Faulted;
     }
     let x = machine::word_at(s, w);
     machine::put_word(s, sb / 2, x);
     let a = machine::first_word(sb);
-    if machine::is_violation(s, c, a / 2) {
-        return Performed::faulted(c, Fault::Store(a));
+    if row::is_violation(s, k, a / 2) {
+        return End::Faulted;
     }
     let p = machine::previous_register(w);
     let u = machine::word_at(s, p);
     machine::put_word(s, a / 2, u);
-    Performed::done(c)
+    End::Done
 }
 
 // Load Byte with Zeroes.
-pub fn bz(s: &mut [u32], c: Control, w: u32, sb: u32) -> Performed
-    ensures { λ r. ⌜ effectOf r (now (s .exit)) ≡ executing BZ w sb (now (s .entry)) c ⌝ }
+pub fn bz(s: &mut [u32], k: &mut Row, w: u32, sb: u32) -> End
+    requires { ⌜ IsRow (now k) ⌝ }
+    ensures value { λ r. ⌜ endingOf r (now (s .exit)) (controlAt (now (k .exit))) ≡ ending (executing BZ w sb (now (s .entry)) (controlAt (now (k .entry)))) ⌝ }
+    ensures kept { λ _. ⌜ IsRow (now (k .exit)) ⌝ }
 {
     if machine::is_absent(s, sb) {
-        return Performed::faulted(c, Fault::Absent(sb));
+        return End::Faulted;
     }
     let b = machine::byte_at(s, sb);
     machine::put_word(s, w, b);
-    Performed::done(c)
+    End::Done
 }
 
 // Load Integer Byte.
-pub fn bl(s: &mut [u32], c: Control, w: u32, sb: u32) -> Performed
-    ensures { λ r. ⌜ effectOf r (now (s .exit)) ≡ executing BL w sb (now (s .entry)) c ⌝ }
+pub fn bl(s: &mut [u32], k: &mut Row, w: u32, sb: u32) -> End
+    requires { ⌜ IsRow (now k) ⌝ }
+    ensures value { λ r. ⌜ endingOf r (now (s .exit)) (controlAt (now (k .exit))) ≡ ending (executing BL w sb (now (s .entry)) (controlAt (now (k .entry)))) ⌝ }
+    ensures kept { λ _. ⌜ IsRow (now (k .exit)) ⌝ }
 {
     if machine::is_absent(s, sb) {
-        return Performed::faulted(c, Fault::Absent(sb));
+        return End::Faulted;
     }
     let b = machine::byte_at(s, sb);
     let e = extend(b);
     machine::put_word(s, w, e);
-    Performed::done(c)
+    End::Done
 }

@@ -6,8 +6,14 @@ use Rattle.cycle.proofs.address.Tie as tie
 displacement-requires : tie.Need-displacement-requires
 displacement-requires c κs = search needs
 
+pending-requires : tie.Need-pending-requires
+pending-requires c κs = search needs
+
 sum24-requires : tie.Need-sum24-requires
 sum24-requires c κs = search needs
+
+ic-requires : tie.Need-ic-requires
+ic-requires c κs = search needs
 
 relative-requires : tie.Need-relative-requires
 relative-requires c κs = search needs
@@ -17,9 +23,16 @@ indexed-requires c κs = search needs
 
 returns : tie.Need-returns
 unfolding address
-returns c = (rw (← (c .before .before .before .displacement .ensures .0), ← (c .before .before .sum24 .ensures .0), ← (c .before .relative .ensures .0), ← (c .indexed .ensures .0)), search needs)
+returns c = (rw (← (c .before .before .before .before .before .displacement .ensures .0), ← (rw (c .before .before .before .before .pending .ensures) at (c .before .before .before .sum24 .ensures .0)), ← (rw (c .before .before .ic .ensures) at (c .before .relative .ensures .0)), ← (c .indexed .ensures .0)), search needs)
 
 pub address-spec : {M : Type 1} → statement M
 address-spec =
     tie.close
-    (tie.spec displacement-requires sum24-requires relative-requires indexed-requires returns)
+    (tie.spec
+    displacement-requires
+    pending-requires
+    sum24-requires
+    ic-requires
+    relative-requires
+    indexed-requires
+    returns)

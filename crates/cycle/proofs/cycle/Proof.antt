@@ -1,5 +1,9 @@
+use borrow.Author.Tests.{lt-ltb}
 use Rattle.running.specs.Cycle.{cycle}
-use borrow.Author.Tests.{lt-ltb, le-ltb}
+use mathlib.Core.Path.{ap, _∙_}
+use Rattle.machine.specs.declared.Kind.the-variants.{Exception}
+use Rattle.running.specs.Runs.{entry}
+use Rattle.cycle.proofs.Steps.{cycle-fetch}
 use borrow.Author.Needs.{needs}
 use Rattle.cycle.proofs.cycle.Statement.{statement}
 use Rattle.cycle.proofs.cycle.Tie as tie
@@ -16,28 +20,48 @@ mul-enter c = search needs
 enter-requires : tie.Need-enter-requires
 enter-requires c κs = search needs
 
-mul-t10 : tie.Need-mul-t10
-mul-t10 c = search needs
+mul-t11 : tie.Need-mul-t11
+mul-t11 c = search needs
 
 same-length : tie.Need-same-length
 same-length c = search needs
 
 returns : tie.Need-returns
 unfolding cycle
-returns c = rw (← (c .before .before .before .before .before .before .line-of .ensures .0), lt-ltb _ _ (c .before .before .before .before .before .if1 .taken), ← (c .before .before .before .before .clear-line .ensures), ← (c .before .before .enter .ensures))
+returns c = (rw (← (c .before .before .before .before .before .before .before .before .line-of .ensures .0), lt-ltb _ _ (c .before .before .before .before .before .before .before .if1 .taken), ← (c .before .before .before .before .before .clear-line .ensures .0), ← (c .before .before .enter .ensures .0)), search needs)
 
 fetch-requires : tie.Need-fetch-requires
 fetch-requires c κs = search needs
 
-conclude-requires : tie.Need-conclude-requires
-conclude-requires c κs = search needs
+enum-told : tie.Need-enum-told
+enum-told c = search needs
+
+enum-told-2 : tie.Need-enum-told-2
+enum-told-2 c = search needs
+
+enum-told-3 : tie.Need-enum-told-3
+enum-told-3 c = search needs
+
+enter-requires-2 : tie.Need-enter-requires-2
+enter-requires-2 c κs = search needs
 
 same-length-2 : tie.Need-same-length-2
 same-length-2 c = search needs
 
 returns-2 : tie.Need-returns-2
-unfolding cycle
-returns-2 c = rw (← (c .before .before .before .before .before .before .before .before .before .line-of .ensures .0), le-ltb _ _ (c .before .before .before .before .before .before .before .before .if1 .left), ← (c .before .before .before .before .before .before .fetch .ensures), ← (c .before .before .conclude .ensures))
+returns-2 c = (rw (c .enum-told .given .1) at (cycle-fetch _ _ _ _ (c .before .before .before .before .before .before .before .before .line-of .ensures .0) (c .before .before .before .before .before .before .before .if1 .left) (c .before .before .before .before .fetch .ensures .0)), search needs)
+
+same-length-3 : tie.Need-same-length-3
+same-length-3 c = search needs
+
+returns-3 : tie.Need-returns-3
+returns-3 c = (rw (c .enum-told2 .given .1) at (cycle-fetch _ _ _ _ (c .before .before .before .before .before .before .before .before .line-of .ensures .0) (c .before .before .before .before .before .before .before .if1 .left) (c .before .before .before .before .fetch .ensures .0)), search needs)
+
+same-length-4 : tie.Need-same-length-4
+same-length-4 c = search needs
+
+returns-4 : tie.Need-returns-4
+returns-4 c = (ap (entry Exception) (c .before .before .enter2 .ensures .0) ∙ rw (c .before .before .before .before .before .enum-told3 .given .1) at (cycle-fetch _ _ _ _ (c .before .before .before .before .before .before .before .before .before .before .before .before .before .line-of .ensures .0) (c .before .before .before .before .before .before .before .before .before .before .before .before .if1 .left) (c .before .before .before .before .before .before .before .before .before .fetch .ensures .0)), search needs)
 
 pub cycle-spec : {M : Type 1} → statement M
 cycle-spec =
@@ -47,10 +71,17 @@ cycle-spec =
     clear-line-requires
     mul-enter
     enter-requires
-    mul-t10
+    mul-t11
     same-length
     returns
     fetch-requires
-    conclude-requires
+    enum-told
+    enum-told-2
+    enum-told-3
+    enter-requires-2
     same-length-2
-    returns-2)
+    returns-2
+    same-length-3
+    returns-3
+    same-length-4
+    returns-4)

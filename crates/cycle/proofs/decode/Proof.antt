@@ -1,65 +1,51 @@
-use Rattle.machine.specs.Store.{forbidden, violation}
+use mathlib.Core.Path.{sym, _∙_}
+use Rattle.cycle.proofs.Steps.{decode-violated, decode-passed}
 use Rattle.cycle.proofs.Fields.{displacement-fits}
-use Rattle.running.specs.Cycle.{decode}
 use borrow.Author.Needs.{needs}
 use Rattle.cycle.proofs.decode.Statement.{statement}
 use Rattle.cycle.proofs.decode.Tie as tie
 
-is-forbidden-requires : tie.Need-is-forbidden-requires
-is-forbidden-requires c κs = search needs
+is-fetch-violation-requires : tie.Need-is-fetch-violation-requires
+is-fetch-violation-requires c κs = search needs
 
-is-violation-requires : tie.Need-is-violation-requires
-is-violation-requires c κs = search needs
-
-sum24-requires : tie.Need-sum24-requires
-sum24-requires c κs = search needs
-
-with-ic-requires : tie.Need-with-ic-requires
-with-ic-requires c κs = search needs
-
-faulted-requires : tie.Need-faulted-requires
-faulted-requires c κs = search needs
-
-same-length : tie.Need-same-length
-same-length c = search needs
+raise-ic-requires : tie.Need-raise-ic-requires
+raise-ic-requires c κs = search needs
 
 returns : tie.Need-returns
-unfolding decode violation forbidden
-returns c = rw (← (c .before .before .before .before .before .is-forbidden .ensures), ← (c .before .before .before .before .is-violation .ensures), c .before .before .before .if1 .taken, ← (c .before .before .sum24 .ensures .0), ← (c .before .with-ic .ensures), c .faulted .ensures)
-
-fetch-record-requires : tie.Need-fetch-record-requires
-fetch-record-requires c κs = search needs
+returns c = (decode-violated _ _ _ _ (c .before .before .before .before .before .before .pre .0) (sym (c .before .before .before .is-fetch-violation .ensures .0) ∙ c .before .before .if1 .taken) (rw (c .before .before .before .is-fetch-violation .ensures .1 .0) at (c .raise-ic .ensures .0)), search needs)
 
 of-word-requires : tie.Need-of-word-requires
 of-word-requires c κs = search needs
 
 address-requires : tie.Need-address-requires
-address-requires c κs = rw (c .before .of-word .ensures) (displacement-fits _)
+address-requires c κs = rw (c .before .before .of-word .ensures) (displacement-fits _)
+
+raise-ic-requires-2 : tie.Need-raise-ic-requires-2
+raise-ic-requires-2 c κs = search needs
+
+set-pending-requires : tie.Need-set-pending-requires
+set-pending-requires c κs = search needs
 
 operate-requires : tie.Need-operate-requires
 operate-requires c κs = search needs
 
-same-length-2 : tie.Need-same-length-2
-same-length-2 c = search needs
+same-length : tie.Need-same-length
+same-length c = search needs
 
 returns-2 : tie.Need-returns-2
-unfolding decode violation forbidden
-returns-2 c = rw (← (c .before .before .before .before .before .before .before .before .before .before .before .before .before .before .pre), ← (c .before .before .before .before .before .before .before .before .before .before .is-forbidden .ensures), ← (c .before .before .before .before .before .before .before .before .before .is-violation .ensures), c .before .before .before .before .before .before .before .before .if1 .left, ← (c .before .before .before .before .before .before .before .fetch-record .ensures), ← (c .before .before .before .before .before .before .of-word .ensures), ← (c .before .before .before .before .address .ensures .0), ← (c .before .before .operate .ensures))
+returns-2 c = (c .before .before .operate .ensures .0 ∙ decode-passed _ _ _ _ _ _ (c .before .before .before .before .before .before .before .before .before .before .before .before .before .before .before .before .before .pre .0) (sym (c .before .before .before .before .before .before .before .before .before .before .before .before .before .before .is-fetch-violation .ensures .0) ∙ c .before .before .before .before .before .before .before .before .before .before .before .before .before .if1 .left) (rw (c .before .before .before .before .before .before .before .raise-ic2 .ensures .0, c .before .before .before .before .before .before .before .before .before .before .before .before .before .before .is-fetch-violation .ensures .1 .0) at (c .before .before .before .before .before .set-pending .ensures .0)) (c .before .before .before .before .before .before .before .before .before .before .before .before .of-word .ensures) (rw (c .before .before .before .before .before .before .before .before .before .before .before .before .before .before .is-fetch-violation .ensures .1 .0) at (c .before .before .before .before .before .before .before .before .before .address .ensures .0)), search needs)
 
 pub decode-spec : {M : Type 1} → statement M
 decode-spec =
     tie.close
     (tie.spec
-    is-forbidden-requires
-    is-violation-requires
-    sum24-requires
-    with-ic-requires
-    faulted-requires
-    same-length
+    is-fetch-violation-requires
+    raise-ic-requires
     returns
-    fetch-record-requires
     of-word-requires
     address-requires
+    raise-ic-requires-2
+    set-pending-requires
     operate-requires
-    same-length-2
+    same-length
     returns-2)

@@ -9,15 +9,12 @@ effective-address-requires c κs = search needs
 is-indirect-absent-requires : tie.Need-is-indirect-absent-requires
 is-indirect-absent-requires c κs = search needs
 
-faulted-requires : tie.Need-faulted-requires
-faulted-requires c κs = search needs
-
 same-length : tie.Need-same-length
 same-length c = search needs
 
 returns : tie.Need-returns
 unfolding operate
-returns c = rw (← (c .before .before .before .before .effective-address .ensures .0), ← (c .before .before .is-indirect-absent .ensures), c .before .if1 .taken, c .faulted .ensures)
+returns c = (rw (← (c .before .before .before .effective-address .ensures .0), ← (c .before .is-indirect-absent .ensures), c .if1 .taken), search needs)
 
 operate-requires : tie.Need-operate-requires
 operate-requires c κs = search needs
@@ -27,7 +24,7 @@ same-length-2 c = search needs
 
 returns-2 : tie.Need-returns-2
 unfolding operate
-returns-2 c = rw (← (c .before .before .before .before .before .before .before .effective-address .ensures .0), ← (c .before .before .before .before .before .is-indirect-absent .ensures), c .before .before .before .before .if1 .left, ← (c .before .before .operate .ensures))
+returns-2 c = (rw (← (c .before .before .before .before .before .before .before .before .effective-address .ensures .0), ← (c .before .before .before .before .before .before .is-indirect-absent .ensures), c .before .before .before .before .before .if1 .left, ← (c .before .before .operate .ensures .0)), search needs)
 
 pub operate-spec : {M : Type 1} → statement M
 operate-spec =
@@ -35,7 +32,6 @@ operate-spec =
     (tie.spec
     effective-address-requires
     is-indirect-absent-requires
-    faulted-requires
     same-length
     returns
     operate-requires

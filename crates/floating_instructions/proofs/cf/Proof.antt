@@ -26,15 +26,12 @@ note-overflow-requires c κs = search needs
 put-long-requires : tie.Need-put-long-requires
 put-long-requires c κs = search needs
 
-done-requires : tie.Need-done-requires
-done-requires c κs = search needs
-
 same-length : tie.Need-same-length
 same-length c = search needs
 
 returns : tie.Need-returns
 unfolding executing perform meaning microSteps microStep monitorSteps monitorStep
-returns c = rw (← (c .before .before .before .before .before .before .before .before .before .before .before .before .clear-flags .ensures), ← (c .before .before .before .before .before .before .before .before .before .before .before .previous-register .ensures), ← (c .before .before .before .before .before .before .before .before .before .word-at .ensures .0), ← (c .before .before .before .before .before .before .before .word-at2 .ensures .0), ← (c .before .before .before .before .before .before .convert-floating .ensures), ← (c .before .before .before .before .before .note-overflow .ensures), ← (c .before .before .before .put-long .ensures), c .done .ensures)
+returns c = (rw (← (c .before .before .before .before .before .before .before .before .before .before .before .before .clear-flags .ensures .0), ← (c .before .before .before .before .before .before .before .before .before .before .before .previous-register .ensures), ← (c .before .before .before .before .before .before .before .before .before .word-at .ensures .0), ← (c .before .before .before .before .before .before .before .word-at2 .ensures .0), ← (c .before .before .before .before .before .before .convert-floating .ensures), ← (c .before .before .before .before .note-overflow .ensures .0), ← (c .before .before .put-long .ensures)), search needs)
 
 pub cf-spec : {M : Type 1} → statement M
 cf-spec =
@@ -47,6 +44,5 @@ cf-spec =
     convert-floating-requires
     note-overflow-requires
     put-long-requires
-    done-requires
     same-length
     returns)

@@ -26,15 +26,12 @@ put-long-requires c κs = search needs
 put-long-requires-2 : tie.Need-put-long-requires-2
 put-long-requires-2 c κs = search needs
 
-done-requires : tie.Need-done-requires
-done-requires c κs = search needs
-
 same-length : tie.Need-same-length
 same-length c = search needs
 
 returns : tie.Need-returns
 unfolding executing perform meaning microSteps microStep monitorSteps monitorStep
-returns c = rw (← (c .before .before .before .before .before .before .before .before .before .before .before .before .before .before .clear-flags .ensures), ← (c .before .before .before .before .before .before .before .before .before .before .before .before .word-at .ensures .0), ← (c .before .before .before .before .before .before .before .before .before .before .before .convert-integer .ensures), ← (c .before .before .before .before .before .before .before .before .before .before .note-overflow .ensures), ← (c .before .before .before .before .before .before .before .before .before .previous-register .ensures), ← (c .before .before .before .before .before .before .before .put-long .ensures), ← (c .before .before .before .put-long2 .ensures), c .done .ensures)
+returns c = (rw (← (c .before .before .before .before .before .before .before .before .before .before .before .before .before .before .clear-flags .ensures .0), ← (c .before .before .before .before .before .before .before .before .before .before .before .before .word-at .ensures .0), ← (c .before .before .before .before .before .before .before .before .before .before .before .convert-integer .ensures), ← (c .before .before .before .before .before .before .before .before .before .note-overflow .ensures .0), ← (c .before .before .before .before .before .before .before .before .previous-register .ensures), ← (c .before .before .before .before .before .before .put-long .ensures), ← (c .before .before .put-long2 .ensures)), search needs)
 
 pub ci-spec : {M : Type 1} → statement M
 ci-spec =
@@ -47,6 +44,5 @@ ci-spec =
     previous-register-requires
     put-long-requires
     put-long-requires-2
-    done-requires
     same-length
     returns)

@@ -5,21 +5,21 @@ use borrow.Author.Needs.{needs}
 use Rattle.floating_instructions.proofs.fa.Statement.{statement}
 use Rattle.floating_instructions.proofs.fa.Tie as tie
 
+ex-requires : tie.Need-ex-requires
+ex-requires c κs = search needs
+
 clear-flags-requires : tie.Need-clear-flags-requires
 clear-flags-requires c κs = search needs
 
 is-absent-requires : tie.Need-is-absent-requires
 is-absent-requires c κs = search needs
 
-faulted-requires : tie.Need-faulted-requires
-faulted-requires c κs = search needs
-
 same-length : tie.Need-same-length
 same-length c = search needs
 
 returns : tie.Need-returns
 unfolding executing perform meaning microSteps microStep monitorSteps monitorStep
-returns c = rw (← (c .before .before .before .before .clear-flags .ensures), ← (c .before .before .is-absent .ensures), c .before .if1 .taken, c .faulted .ensures)
+returns c = (rw (← (c .before .before .before .clear-flags .ensures .0), ← (c .before .is-absent .ensures), c .if1 .taken), search needs)
 
 previous-register-requires : tie.Need-previous-register-requires
 previous-register-requires c κs = search needs
@@ -51,23 +51,20 @@ put-long-requires c κs = search needs
 put-long-requires-2 : tie.Need-put-long-requires-2
 put-long-requires-2 c κs = search needs
 
-done-requires : tie.Need-done-requires
-done-requires c κs = search needs
-
 same-length-2 : tie.Need-same-length-2
 same-length-2 c = search needs
 
 returns-2 : tie.Need-returns-2
 unfolding executing perform meaning microSteps microStep monitorSteps monitorStep
-returns-2 c = rw (← (c .before .before .before .before .before .before .before .before .before .before .before .before .before .before .before .before .before .before .before .before .before .before .before .before .clear-flags .ensures), ← (c .before .before .before .before .before .before .before .before .before .before .before .before .before .before .before .before .before .before .before .before .before .before .is-absent .ensures), c .before .before .before .before .before .before .before .before .before .before .before .before .before .before .before .before .before .before .before .before .before .if1 .left, ← (c .before .before .before .before .before .before .before .before .before .before .before .before .before .before .before .before .before .before .before .before .previous-register .ensures), ← (c .before .before .before .before .before .before .before .before .before .before .before .before .before .before .before .before .before .before .word-at .ensures .0), ← (c .before .before .before .before .before .before .before .before .before .before .before .before .before .before .before .before .word-at2 .ensures .0), ← (c .before .before .before .before .before .before .before .before .before .before .before .before .before .before .before .first-word .ensures), ← (c .before .before .before .before .before .before .before .before .before .before .before .before .before .word-at3 .ensures .0), ← (c .before .before .before .before .before .before .before .before .before .before .before .word-at4 .ensures .0), ← (c .before .before .before .before .before .before .before .before .before .before .add .ensures), ← (c .before .before .before .before .before .before .before .before .before .note-overflow .ensures), ← (c .before .before .before .before .before .before .before .put-long .ensures), ← (c .before .before .before .put-long2 .ensures), c .done .ensures)
+returns-2 c = (rw (← (c .before .before .before .before .before .before .before .before .before .before .before .before .before .before .before .before .before .before .before .before .before .before .before .before .clear-flags .ensures .0), ← (c .before .before .before .before .before .before .before .before .before .before .before .before .before .before .before .before .before .before .before .before .before .before .is-absent .ensures), c .before .before .before .before .before .before .before .before .before .before .before .before .before .before .before .before .before .before .before .before .before .if1 .left, ← (c .before .before .before .before .before .before .before .before .before .before .before .before .before .before .before .before .before .before .before .before .previous-register .ensures), ← (c .before .before .before .before .before .before .before .before .before .before .before .before .before .before .before .before .before .before .word-at .ensures .0), ← (c .before .before .before .before .before .before .before .before .before .before .before .before .before .before .before .before .word-at2 .ensures .0), ← (c .before .before .before .before .before .before .before .before .before .before .before .before .before .before .before .first-word .ensures), ← (c .before .before .before .before .before .before .before .before .before .before .before .before .before .word-at3 .ensures .0), ← (c .before .before .before .before .before .before .before .before .before .before .before .word-at4 .ensures .0), ← (rw (c .before .before .before .before .before .before .before .before .before .before .before .before .before .before .before .before .before .before .before .before .before .before .before .before .before .before .ex .ensures) at (c .before .before .before .before .before .before .before .before .before .before .add .ensures)), ← (c .before .before .before .before .before .before .before .before .note-overflow .ensures .0), ← (c .before .before .before .before .before .before .put-long .ensures), ← (c .before .before .put-long2 .ensures)), search needs)
 
 pub fa-spec : {M : Type 1} → statement M
 fa-spec =
     tie.close
     (tie.spec
+    ex-requires
     clear-flags-requires
     is-absent-requires
-    faulted-requires
     same-length
     returns
     previous-register-requires
@@ -80,6 +77,5 @@ fa-spec =
     note-overflow-requires
     put-long-requires
     put-long-requires-2
-    done-requires
     same-length-2
     returns-2)

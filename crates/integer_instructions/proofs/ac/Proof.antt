@@ -14,21 +14,15 @@ subtract-requires c κs = search needs
 put-word-requires : tie.Need-put-word-requires
 put-word-requires c κs = search needs
 
-note-overflow-requires : tie.Need-note-overflow-requires
-note-overflow-requires c κs = search needs
-
-note-carry-requires : tie.Need-note-carry-requires
-note-carry-requires c κs = search needs
-
-done-requires : tie.Need-done-requires
-done-requires c κs = search needs
+test-integer-requires : tie.Need-test-integer-requires
+test-integer-requires c κs = search needs
 
 same-length : tie.Need-same-length
 same-length c = search needs
 
 returns : tie.Need-returns
 unfolding executing perform meaning microSteps microStep monitorSteps monitorStep
-returns c = rw (← (c .before .before .before .before .before .before .before .before .clear-flags .ensures), ← (c .before .before .before .before .before .before .before .subtract .ensures .0), ← (c .before .before .before .before .before .put-word .ensures), ← (c .before .before .note-overflow .ensures), ← (c .before .note-carry .ensures), c .done .ensures)
+returns c = (rw (← (c .before .before .before .before .before .before .before .clear-flags .ensures .0), ← (c .before .before .before .before .before .before .subtract .ensures .0), ← (c .before .before .before .before .put-word .ensures), ← (c .test-integer .ensures .0)), search needs)
 
 pub ac-spec : {M : Type 1} → statement M
 ac-spec =
@@ -37,8 +31,6 @@ ac-spec =
     clear-flags-requires
     subtract-requires
     put-word-requires
-    note-overflow-requires
-    note-carry-requires
-    done-requires
+    test-integer-requires
     same-length
     returns)

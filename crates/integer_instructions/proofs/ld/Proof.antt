@@ -11,34 +11,16 @@ pair-at-requires c κs = search needs
 logical48-requires : tie.Need-logical48-requires
 logical48-requires c κs = search needs
 
-previous-register-requires : tie.Need-previous-register-requires
-previous-register-requires c κs = search needs
-
-put-long-requires : tie.Need-put-long-requires
-put-long-requires c κs = search needs
-
-put-long-requires-2 : tie.Need-put-long-requires-2
-put-long-requires-2 c κs = search needs
-
-done-requires : tie.Need-done-requires
-done-requires c κs = search needs
+put-pair-requires : tie.Need-put-pair-requires
+put-pair-requires c κs = search needs
 
 same-length : tie.Need-same-length
 same-length c = search needs
 
 returns : tie.Need-returns
 unfolding executing perform meaning microSteps microStep monitorSteps monitorStep
-returns c = rw (← (c .before .before .before .before .before .before .before .before .before .before .before .pair-at .ensures .0), ← (c .before .before .before .before .before .before .before .before .before .before .logical48 .ensures .0), ← (c .before .before .before .before .before .before .before .before .before .previous-register .ensures), ← (c .before .before .before .before .before .before .before .put-long .ensures), ← (c .before .before .before .put-long2 .ensures), c .done .ensures)
+returns c = (rw (← (c .before .before .before .before .before .pair-at .ensures .0), ← (c .before .before .before .before .logical48 .ensures .0), ← (c .before .before .put-pair .ensures)), search needs)
 
 pub ld-spec : {M : Type 1} → statement M
 ld-spec =
-    tie.close
-    (tie.spec
-    pair-at-requires
-    logical48-requires
-    previous-register-requires
-    put-long-requires
-    put-long-requires-2
-    done-requires
-    same-length
-    returns)
+    tie.close (tie.spec pair-at-requires logical48-requires put-pair-requires same-length returns)

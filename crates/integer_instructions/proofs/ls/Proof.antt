@@ -14,23 +14,13 @@ logical24-requires c κs = search needs
 put-word-requires : tie.Need-put-word-requires
 put-word-requires c κs = search needs
 
-done-requires : tie.Need-done-requires
-done-requires c κs = search needs
-
 same-length : tie.Need-same-length
 same-length c = search needs
 
 returns : tie.Need-returns
 unfolding executing perform meaning microSteps microStep monitorSteps monitorStep
-returns c = rw (← (c .before .before .before .before .before .before .word-at .ensures .0), ← (c .before .before .before .before .before .logical24 .ensures .0), ← (c .before .before .before .put-word .ensures), c .done .ensures)
+returns c = (rw (← (c .before .before .before .before .before .word-at .ensures .0), ← (c .before .before .before .before .logical24 .ensures .0), ← (c .before .before .put-word .ensures)), search needs)
 
 pub ls-spec : {M : Type 1} → statement M
 ls-spec =
-    tie.close
-    (tie.spec
-    word-at-requires
-    logical24-requires
-    put-word-requires
-    done-requires
-    same-length
-    returns)
+    tie.close (tie.spec word-at-requires logical24-requires put-word-requires same-length returns)

@@ -20,15 +20,12 @@ note-overflow-requires c κs = search needs
 put-long-requires : tie.Need-put-long-requires
 put-long-requires c κs = search needs
 
-done-requires : tie.Need-done-requires
-done-requires c κs = search needs
-
 same-length : tie.Need-same-length
 same-length c = search needs
 
 returns : tie.Need-returns
 unfolding executing perform meaning microSteps microStep monitorSteps monitorStep
-returns c = rw (← (c .before .before .before .before .before .before .before .before .before .clear-flags .ensures), ← (c .before .before .before .before .before .before .before .word-at .ensures .0), ← (c .before .before .before .before .before .before .arithmetic24 .ensures .0), ← (c .before .before .before .before .before .note-overflow .ensures), ← (c .before .before .before .put-long .ensures), c .done .ensures)
+returns c = (rw (← (c .before .before .before .before .before .before .before .before .before .clear-flags .ensures .0), ← (c .before .before .before .before .before .before .before .word-at .ensures .0), ← (c .before .before .before .before .before .before .arithmetic24 .ensures .0), ← (c .before .before .before .before .note-overflow .ensures .0), ← (c .before .before .put-long .ensures)), search needs)
 
 pub shift-as-spec : {M : Type 1} → statement M
 shift-as-spec =
@@ -39,6 +36,5 @@ shift-as-spec =
     arithmetic24-requires
     note-overflow-requires
     put-long-requires
-    done-requires
     same-length
     returns)

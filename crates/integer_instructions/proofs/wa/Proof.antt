@@ -11,15 +11,12 @@ clear-flags-requires c κs = search needs
 is-absent-requires : tie.Need-is-absent-requires
 is-absent-requires c κs = search needs
 
-faulted-requires : tie.Need-faulted-requires
-faulted-requires c κs = search needs
-
 same-length : tie.Need-same-length
 same-length c = search needs
 
 returns : tie.Need-returns
 unfolding executing perform meaning microSteps microStep monitorSteps monitorStep
-returns c = rw (← (c .before .before .before .before .clear-flags .ensures), ← (c .before .before .is-absent .ensures), c .before .if1 .taken, c .faulted .ensures)
+returns c = (rw (← (c .before .before .before .clear-flags .ensures .0), ← (c .before .is-absent .ensures), c .if1 .taken), search needs)
 
 word-at-requires : tie.Need-word-at-requires
 word-at-requires c κs = search needs
@@ -33,21 +30,15 @@ add-requires c κs = search needs
 put-word-requires : tie.Need-put-word-requires
 put-word-requires c κs = search needs
 
-note-overflow-requires : tie.Need-note-overflow-requires
-note-overflow-requires c κs = search needs
-
-note-carry-requires : tie.Need-note-carry-requires
-note-carry-requires c κs = search needs
-
-done-requires : tie.Need-done-requires
-done-requires c κs = search needs
+test-integer-requires : tie.Need-test-integer-requires
+test-integer-requires c κs = search needs
 
 same-length-2 : tie.Need-same-length-2
 same-length-2 c = search needs
 
 returns-2 : tie.Need-returns-2
 unfolding executing perform meaning microSteps microStep monitorSteps monitorStep
-returns-2 c = rw (← (c .before .before .before .before .before .before .before .before .before .before .before .before .before .before .before .clear-flags .ensures), ← (c .before .before .before .before .before .before .before .before .before .before .before .before .before .is-absent .ensures), c .before .before .before .before .before .before .before .before .before .before .before .before .if1 .left, ← (c .before .before .before .before .before .before .before .before .before .before .word-at .ensures .0), ← (c .before .before .before .before .before .before .before .before .word-at2 .ensures .0), ← (c .before .before .before .before .before .before .before .add .ensures .0), ← (c .before .before .before .before .before .put-word .ensures), ← (c .before .before .note-overflow .ensures), ← (c .before .note-carry .ensures), c .done .ensures)
+returns-2 c = (rw (← (c .before .before .before .before .before .before .before .before .before .before .before .before .before .before .clear-flags .ensures .0), ← (c .before .before .before .before .before .before .before .before .before .before .before .before .is-absent .ensures), c .before .before .before .before .before .before .before .before .before .before .before .if1 .left, ← (c .before .before .before .before .before .before .before .before .before .word-at .ensures .0), ← (c .before .before .before .before .before .before .before .word-at2 .ensures .0), ← (c .before .before .before .before .before .before .add .ensures .0), ← (c .before .before .before .before .put-word .ensures), ← (c .test-integer .ensures .0)), search needs)
 
 pub wa-spec : {M : Type 1} → statement M
 wa-spec =
@@ -55,15 +46,12 @@ wa-spec =
     (tie.spec
     clear-flags-requires
     is-absent-requires
-    faulted-requires
     same-length
     returns
     word-at-requires
     word-at-requires-2
     add-requires
     put-word-requires
-    note-overflow-requires
-    note-carry-requires
-    done-requires
+    test-integer-requires
     same-length-2
     returns-2)

@@ -11,15 +11,12 @@ clear-flags-requires c κs = search needs
 is-absent-requires : tie.Need-is-absent-requires
 is-absent-requires c κs = search needs
 
-faulted-requires : tie.Need-faulted-requires
-faulted-requires c κs = search needs
-
 same-length : tie.Need-same-length
 same-length c = search needs
 
 returns : tie.Need-returns
 unfolding executing perform meaning microSteps microStep monitorSteps monitorStep
-returns c = rw (← (c .before .before .before .before .clear-flags .ensures), ← (c .before .before .is-absent .ensures), c .before .if1 .taken, c .faulted .ensures)
+returns c = (rw (← (c .before .before .before .clear-flags .ensures .0), ← (c .before .is-absent .ensures), c .if1 .taken), search needs)
 
 previous-register-requires : tie.Need-previous-register-requires
 previous-register-requires c κs = search needs
@@ -45,15 +42,12 @@ put-word-requires c κs = search needs
 put-word-requires-2 : tie.Need-put-word-requires-2
 put-word-requires-2 c κs = search needs
 
-done-requires : tie.Need-done-requires
-done-requires c κs = search needs
-
 same-length-2 : tie.Need-same-length-2
 same-length-2 c = search needs
 
 returns-2 : tie.Need-returns-2
 unfolding executing perform meaning microSteps microStep monitorSteps monitorStep
-returns-2 c = rw (← (c .before .before .before .before .before .before .before .before .before .before .before .before .before .before .before .before .before .before .before .before .before .clear-flags .ensures), ← (c .before .before .before .before .before .before .before .before .before .before .before .before .before .before .before .before .before .before .before .is-absent .ensures), c .before .before .before .before .before .before .before .before .before .before .before .before .before .before .before .before .before .before .if1 .left, ← (c .before .before .before .before .before .before .before .before .before .before .before .before .before .before .before .before .before .previous-register .ensures), ← (c .before .before .before .before .before .before .before .before .before .before .before .before .before .before .before .word-at .ensures .0), ← (c .before .before .before .before .before .before .before .before .before .before .before .before .before .word-at2 .ensures .0), ← (c .before .before .before .before .before .before .before .before .before .before .before .word-at3 .ensures .0), ← (c .before .before .before .before .before .before .before .before .before .before .divide .ensures .0), ← (c .before .before .before .before .before .before .before .before .before .note-overflow .ensures), ← (c .before .before .before .before .before .before .before .put-word .ensures), ← (c .before .before .before .put-word2 .ensures), c .done .ensures)
+returns-2 c = (rw (← (c .before .before .before .before .before .before .before .before .before .before .before .before .before .before .before .before .before .before .before .before .before .clear-flags .ensures .0), ← (c .before .before .before .before .before .before .before .before .before .before .before .before .before .before .before .before .before .before .before .is-absent .ensures), c .before .before .before .before .before .before .before .before .before .before .before .before .before .before .before .before .before .before .if1 .left, ← (c .before .before .before .before .before .before .before .before .before .before .before .before .before .before .before .before .before .previous-register .ensures), ← (c .before .before .before .before .before .before .before .before .before .before .before .before .before .before .before .word-at .ensures .0), ← (c .before .before .before .before .before .before .before .before .before .before .before .before .before .word-at2 .ensures .0), ← (c .before .before .before .before .before .before .before .before .before .before .before .word-at3 .ensures .0), ← (c .before .before .before .before .before .before .before .before .before .before .divide .ensures .0), ← (c .before .before .before .before .before .before .before .before .note-overflow .ensures .0), ← (c .before .before .before .before .before .before .put-word .ensures), ← (c .before .before .put-word2 .ensures)), search needs)
 
 pub wd-spec : {M : Type 1} → statement M
 wd-spec =
@@ -61,7 +55,6 @@ wd-spec =
     (tie.spec
     clear-flags-requires
     is-absent-requires
-    faulted-requires
     same-length
     returns
     previous-register-requires
@@ -72,6 +65,5 @@ wd-spec =
     note-overflow-requires
     put-word-requires
     put-word-requires-2
-    done-requires
     same-length-2
     returns-2)

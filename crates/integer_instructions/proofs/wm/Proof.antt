@@ -8,15 +8,12 @@ use Rattle.integer_instructions.proofs.wm.Tie as tie
 is-absent-requires : tie.Need-is-absent-requires
 is-absent-requires c κs = search needs
 
-faulted-requires : tie.Need-faulted-requires
-faulted-requires c κs = search needs
-
 same-length : tie.Need-same-length
 same-length c = search needs
 
 returns : tie.Need-returns
 unfolding executing perform meaning microSteps microStep monitorSteps monitorStep
-returns c = rw (← (c .before .before .is-absent .ensures), c .before .if1 .taken, c .faulted .ensures)
+returns c = (rw (← (c .before .is-absent .ensures), c .if1 .taken), search needs)
 
 word-at-requires : tie.Need-word-at-requires
 word-at-requires c κs = search needs
@@ -27,39 +24,26 @@ word-at-requires-2 c κs = search needs
 multiply-requires : tie.Need-multiply-requires
 multiply-requires c κs = search needs
 
-previous-register-requires : tie.Need-previous-register-requires
-previous-register-requires c κs = search needs
-
-put-long-requires : tie.Need-put-long-requires
-put-long-requires c κs = search needs
-
-put-long-requires-2 : tie.Need-put-long-requires-2
-put-long-requires-2 c κs = search needs
-
-done-requires : tie.Need-done-requires
-done-requires c κs = search needs
+put-pair-requires : tie.Need-put-pair-requires
+put-pair-requires c κs = search needs
 
 same-length-2 : tie.Need-same-length-2
 same-length-2 c = search needs
 
 returns-2 : tie.Need-returns-2
 unfolding executing perform meaning microSteps microStep monitorSteps monitorStep
-returns-2 c = rw (← (c .before .before .before .before .before .before .before .before .before .before .before .before .before .before .before .before .is-absent .ensures), c .before .before .before .before .before .before .before .before .before .before .before .before .before .before .before .if1 .left, ← (c .before .before .before .before .before .before .before .before .before .before .before .before .before .word-at .ensures .0), ← (c .before .before .before .before .before .before .before .before .before .before .before .word-at2 .ensures .0), ← (c .before .before .before .before .before .before .before .before .before .before .multiply .ensures .0), ← (c .before .before .before .before .before .before .before .before .before .previous-register .ensures), ← (c .before .before .before .before .before .before .before .put-long .ensures), ← (c .before .before .before .put-long2 .ensures), c .done .ensures)
+returns-2 c = (rw (← (c .before .before .before .before .before .before .before .before .before .before .is-absent .ensures), c .before .before .before .before .before .before .before .before .before .if1 .left, ← (c .before .before .before .before .before .before .before .word-at .ensures .0), ← (c .before .before .before .before .before .word-at2 .ensures .0), ← (c .before .before .before .before .multiply .ensures .0), ← (c .before .before .put-pair .ensures)), search needs)
 
 pub wm-spec : {M : Type 1} → statement M
 wm-spec =
     tie.close
     (tie.spec
     is-absent-requires
-    faulted-requires
     same-length
     returns
     word-at-requires
     word-at-requires-2
     multiply-requires
-    previous-register-requires
-    put-long-requires
-    put-long-requires-2
-    done-requires
+    put-pair-requires
     same-length-2
     returns-2)

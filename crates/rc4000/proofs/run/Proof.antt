@@ -1,5 +1,5 @@
 use mathlib.Core.Path.{sym, _∙_}
-use Rattle.rc4000.proofs.Laws.{fits-a-run, run-accepted, run-rejected, with-promises}
+use Rattle.rc4000.proofs.Laws.{fits-a-run, fits-unraised, run-accepted, run-unraised, run-rejected, with-promises}
 use borrow.Author.Needs.{needs}
 use Rattle.rc4000.proofs.run.Statement.{statement}
 use Rattle.rc4000.proofs.run.Tie as tie
@@ -10,11 +10,11 @@ judge-run-requires c κs = search needs
 enum-told : tie.Need-enum-told
 enum-told c = search needs
 
-raise-requires : tie.Need-raise-requires
-raise-requires c κs = search needs
-
 run-requires : tie.Need-run-requires
-run-requires c κs = rw (c .before .raise .ensures) (fits-a-run _ _ _ _ (sym (c .before .before .enum-told .given .1) ∙ c .before .before .before .before .judge-run .ensures))
+run-requires c κs = fits-unraised _ _ _ _ (sym (c .before .before .enum-told .given .1) ∙ c .before .before .before .before .judge-run .ensures)
+
+run-raised-requires : tie.Need-run-raised-requires
+run-raised-requires c κs = fits-a-run _ _ _ _ (sym (c .before .before .enum-told .given .1) ∙ c .before .before .before .before .judge-run .ensures)
 
 enum-known-v : tie.Need-enum-known-v
 enum-known-v c = search needs
@@ -23,16 +23,19 @@ same-length : tie.Need-same-length
 same-length c = search needs
 
 returns : tie.Need-returns
-returns c =
-    let a = sym (c .before .before .before .before .before .enum-told .given .1) ∙ c .before .before .before .before .before .before .before .judge-run .ensures in
-    with-promises _ _ _ _ (run-accepted _ _ _ _ _ a (rw (c .before .before .before .before .raise .ensures) at (c .before .before .run .ensures)))
+returns c = with-promises _ _ _ _ (run-unraised _ _ _ _ _ (c .before .before .before .before .if1 .taken) (sym (c .before .before .before .before .before .enum-told .given .1) ∙ c .before .before .before .before .before .before .before .judge-run .ensures) (c .before .before .run .ensures))
 
 same-length-2 : tie.Need-same-length-2
 same-length-2 c = search needs
 
 returns-2 : tie.Need-returns-2
-returns-2 c =
-    with-promises _ _ _ _ (run-rejected _ _ _ _ _ (sym (c .before .v .given .1) ∙ c .before .before .before .judge-run .ensures))
+returns-2 c = with-promises _ _ _ _ (run-accepted _ _ _ _ _ (sym (c .before .before .before .before .before .enum-told .given .1) ∙ c .before .before .before .before .before .before .before .judge-run .ensures) (c .before .before .run-raised .ensures))
+
+same-length-3 : tie.Need-same-length-3
+same-length-3 c = search needs
+
+returns-3 : tie.Need-returns-3
+returns-3 c = with-promises _ _ _ _ (run-rejected _ _ _ _ _ (sym (c .before .v .given .1) ∙ c .before .before .before .judge-run .ensures))
 
 pub run-spec : {M : Type 1} → statement M
 run-spec =
@@ -40,10 +43,12 @@ run-spec =
     (tie.spec
     judge-run-requires
     enum-told
-    raise-requires
     run-requires
+    run-raised-requires
     enum-known-v
     same-length
     returns
     same-length-2
-    returns-2)
+    returns-2
+    same-length-3
+    returns-3)

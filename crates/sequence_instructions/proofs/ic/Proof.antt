@@ -8,34 +8,24 @@ use Rattle.sequence_instructions.proofs.ic.Tie as tie
 is-task-requires : tie.Need-is-task-requires
 is-task-requires c κs = search needs
 
-faulted-requires : tie.Need-faulted-requires
-faulted-requires c κs = search needs
-
 returns : tie.Need-returns
 unfolding executing perform meaning microSteps microStep monitorSteps monitorStep
-returns c = rw (← (c .before .before .is-task .ensures), c .before .if1 .taken, c .faulted .ensures)
+returns c = (rw (← (c .before .is-task .ensures), c .if1 .taken), search needs)
+
+ir-requires : tie.Need-ir-requires
+ir-requires c κs = search needs
 
 clear24-requires : tie.Need-clear24-requires
 clear24-requires c κs = search needs
 
-with-ir-requires : tie.Need-with-ir-requires
-with-ir-requires c κs = search needs
-
-done-requires : tie.Need-done-requires
-done-requires c κs = search needs
+set-ir-requires : tie.Need-set-ir-requires
+set-ir-requires c κs = search needs
 
 returns-2 : tie.Need-returns-2
 unfolding executing perform meaning microSteps microStep monitorSteps monitorStep
-returns-2 c = rw (← (c .before .before .before .before .before .is-task .ensures), c .before .before .before .before .if1 .left, ← (c .before .before .clear24 .ensures .0), ← (c .before .with-ir .ensures), c .done .ensures)
+returns-2 c = (rw (← (c .before .before .before .before .before .before .is-task .ensures), c .before .before .before .before .before .if1 .left, ← (rw (c .before .before .before .ir .ensures) at (c .before .before .clear24 .ensures .0)), ← (c .set-ir .ensures .0)), search needs)
 
 pub ic-spec : {M : Type 1} → statement M
 ic-spec =
     tie.close
-    (tie.spec
-    is-task-requires
-    faulted-requires
-    returns
-    clear24-requires
-    with-ir-requires
-    done-requires
-    returns-2)
+    (tie.spec is-task-requires returns ir-requires clear24-requires set-ir-requires returns-2)

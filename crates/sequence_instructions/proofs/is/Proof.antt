@@ -8,55 +8,47 @@ use Rattle.sequence_instructions.proofs.is.Tie as tie
 is-absent-requires : tie.Need-is-absent-requires
 is-absent-requires c κs = search needs
 
-faulted-requires : tie.Need-faulted-requires
-faulted-requires c κs = search needs
-
 same-length : tie.Need-same-length
 same-length c = search needs
 
 returns : tie.Need-returns
 unfolding executing perform meaning microSteps microStep monitorSteps monitorStep
-returns c = rw (← (c .before .before .is-absent .ensures), c .before .if1 .taken, c .faulted .ensures)
+returns c = (rw (← (c .before .is-absent .ensures), c .if1 .taken), search needs)
 
 is-violation-requires : tie.Need-is-violation-requires
 is-violation-requires c κs = search needs
-
-faulted-requires-2 : tie.Need-faulted-requires-2
-faulted-requires-2 c κs = search needs
 
 same-length-2 : tie.Need-same-length-2
 same-length-2 c = search needs
 
 returns-2 : tie.Need-returns-2
 unfolding executing perform meaning microSteps microStep monitorSteps monitorStep
-returns-2 c = rw (← (c .before .before .before .before .before .is-absent .ensures), c .before .before .before .before .if1 .left, ← (c .before .before .is-violation .ensures), c .before .if2 .taken, c .faulted2 .ensures)
+returns-2 c = (rw (← (c .before .before .before .before .before .is-absent .ensures), c .before .before .before .before .if1 .left, ← (c .before .is-violation .ensures), c .if2 .taken), search needs)
+
+ir-requires : tie.Need-ir-requires
+ir-requires c κs = search needs
 
 put-word-requires : tie.Need-put-word-requires
 put-word-requires c κs = search needs
-
-done-requires : tie.Need-done-requires
-done-requires c κs = search needs
 
 same-length-3 : tie.Need-same-length-3
 same-length-3 c = search needs
 
 returns-3 : tie.Need-returns-3
 unfolding executing perform meaning microSteps microStep monitorSteps monitorStep
-returns-3 c = rw (← (c .before .before .before .before .before .before .before .before .before .is-absent .ensures), c .before .before .before .before .before .before .before .before .if1 .left, ← (c .before .before .before .before .before .before .is-violation .ensures), c .before .before .before .before .before .if2 .left, ← (c .before .before .before .put-word .ensures), c .done .ensures)
+returns-3 c = (rw (← (c .before .before .before .before .before .before .before .before .before .before .before .is-absent .ensures), c .before .before .before .before .before .before .before .before .before .before .if1 .left, ← (c .before .before .before .before .before .before .before .is-violation .ensures), c .before .before .before .before .before .before .if2 .left, ← (rw (c .before .before .before .before .ir .ensures) at (c .before .before .put-word .ensures))), search needs)
 
 pub is-spec : {M : Type 1} → statement M
 is-spec =
     tie.close
     (tie.spec
     is-absent-requires
-    faulted-requires
     same-length
     returns
     is-violation-requires
-    faulted-requires-2
     same-length-2
     returns-2
+    ir-requires
     put-word-requires
-    done-requires
     same-length-3
     returns-3)

@@ -8,63 +8,55 @@ use Rattle.sequence_instructions.proofs.je.Tie as tie
 is-task-requires : tie.Need-is-task-requires
 is-task-requires c κs = search needs
 
-faulted-requires : tie.Need-faulted-requires
-faulted-requires c κs = search needs
-
 returns : tie.Need-returns
 unfolding executing perform meaning microSteps microStep monitorSteps monitorStep
-returns c = rw (← (c .before .before .is-task .ensures), c .before .if1 .taken, c .faulted .ensures)
+returns c = (rw (← (c .before .is-task .ensures), c .if1 .taken), search needs)
 
 is-absent-requires : tie.Need-is-absent-requires
 is-absent-requires c κs = search needs
-
-faulted-requires-2 : tie.Need-faulted-requires-2
-faulted-requires-2 c κs = search needs
 
 same-length : tie.Need-same-length
 same-length c = search needs
 
 returns-2 : tie.Need-returns-2
 unfolding executing perform meaning microSteps microStep monitorSteps monitorStep
-returns-2 c = rw (← (c .before .before .before .before .before .is-task .ensures), c .before .before .before .before .if1 .left, ← (c .before .before .is-absent .ensures), c .before .if2 .taken, c .faulted2 .ensures)
+returns-2 c = (rw (← (c .before .before .before .before .is-task .ensures), c .before .before .before .if1 .left, ← (c .before .is-absent .ensures), c .if2 .taken), search needs)
 
-with-enabled-requires : tie.Need-with-enabled-requires
-with-enabled-requires c κs = search needs
+set-enabled-requires : tie.Need-set-enabled-requires
+set-enabled-requires c κs = search needs
+
+ic-requires : tie.Need-ic-requires
+ic-requires c κs = search needs
 
 put-link-requires : tie.Need-put-link-requires
 put-link-requires c κs = search needs
 
-mul-with-ic : tie.Need-mul-with-ic
-mul-with-ic c = search needs
+mul-set-ic : tie.Need-mul-set-ic
+mul-set-ic c = search needs
 
-with-ic-requires : tie.Need-with-ic-requires
-with-ic-requires c κs = search needs
-
-done-requires : tie.Need-done-requires
-done-requires c κs = search needs
+set-ic-requires : tie.Need-set-ic-requires
+set-ic-requires c κs = search needs
 
 same-length-2 : tie.Need-same-length-2
 same-length-2 c = search needs
 
 returns-3 : tie.Need-returns-3
 unfolding executing perform meaning microSteps microStep monitorSteps monitorStep
-returns-3 c = rw (← (c .before .before .before .before .before .before .before .before .before .before .before .is-task .ensures), c .before .before .before .before .before .before .before .before .before .before .if1 .left, ← (c .before .before .before .before .before .before .before .before .is-absent .ensures), c .before .before .before .before .before .before .before .if2 .left, ← (c .before .before .before .before .before .before .with-enabled .ensures), ← (c .before .before .before .before .put-link .ensures), ← (c .before .with-ic .ensures), c .done .ensures)
+returns-3 c = (rw (← (c .before .before .before .before .before .before .before .before .before .before .before .before .before .before .is-task .ensures), c .before .before .before .before .before .before .before .before .before .before .before .before .before .if1 .left, ← (c .before .before .before .before .before .before .before .before .before .before .before .is-absent .ensures), c .before .before .before .before .before .before .before .before .before .before .if2 .left, ← (c .before .before .before .before .before .before .before .before .set-enabled .ensures .0), ← (rw (c .before .before .before .before .before .before .ic .ensures) at (c .before .before .before .before .put-link .ensures)), ← (c .set-ic .ensures .0)), search needs)
 
 pub je-spec : {M : Type 1} → statement M
 je-spec =
     tie.close
     (tie.spec
     is-task-requires
-    faulted-requires
     returns
     is-absent-requires
-    faulted-requires-2
     same-length
     returns-2
-    with-enabled-requires
+    set-enabled-requires
+    ic-requires
     put-link-requires
-    mul-with-ic
-    with-ic-requires
-    done-requires
+    mul-set-ic
+    set-ic-requires
     same-length-2
     returns-3)

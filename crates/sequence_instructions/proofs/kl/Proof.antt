@@ -8,15 +8,12 @@ use Rattle.sequence_instructions.proofs.kl.Tie as tie
 is-absent-requires : tie.Need-is-absent-requires
 is-absent-requires c κs = search needs
 
-faulted-requires : tie.Need-faulted-requires
-faulted-requires c κs = search needs
-
 same-length : tie.Need-same-length
 same-length c = search needs
 
 returns : tie.Need-returns
 unfolding executing perform meaning microSteps microStep monitorSteps monitorStep
-returns c = rw (← (c .before .before .is-absent .ensures), c .before .if1 .taken, c .faulted .ensures)
+returns c = (rw (← (c .before .is-absent .ensures), c .if1 .taken), search needs)
 
 key-at-requires : tie.Need-key-at-requires
 key-at-requires c κs = search needs
@@ -24,26 +21,21 @@ key-at-requires c κs = search needs
 put-word-requires : tie.Need-put-word-requires
 put-word-requires c κs = search needs
 
-done-requires : tie.Need-done-requires
-done-requires c κs = search needs
-
 same-length-2 : tie.Need-same-length-2
 same-length-2 c = search needs
 
 returns-2 : tie.Need-returns-2
 unfolding executing perform meaning microSteps microStep monitorSteps monitorStep
-returns-2 c = rw (← (c .before .before .before .before .before .before .before .before .is-absent .ensures), c .before .before .before .before .before .before .before .if1 .left, ← (c .before .before .before .before .before .key-at .ensures), ← (c .before .before .before .put-word .ensures), c .done .ensures)
+returns-2 c = (rw (← (c .before .before .before .before .before .before .before .is-absent .ensures), c .before .before .before .before .before .before .if1 .left, ← (c .before .before .before .before .key-at .ensures), ← (c .before .before .put-word .ensures)), search needs)
 
 pub kl-spec : {M : Type 1} → statement M
 kl-spec =
     tie.close
     (tie.spec
     is-absent-requires
-    faulted-requires
     same-length
     returns
     key-at-requires
     put-word-requires
-    done-requires
     same-length-2
     returns-2)

@@ -8,59 +8,47 @@ use Rattle.sequence_instructions.proofs.ml.Tie as tie
 is-task-requires : tie.Need-is-task-requires
 is-task-requires c κs = search needs
 
-faulted-requires : tie.Need-faulted-requires
-faulted-requires c κs = search needs
-
 returns : tie.Need-returns
 unfolding executing perform meaning microSteps microStep monitorSteps monitorStep
-returns c = rw (← (c .before .before .is-task .ensures), c .before .if1 .taken, c .faulted .ensures)
+returns c = (rw (← (c .before .is-task .ensures), c .if1 .taken), search needs)
 
 is-absent-requires : tie.Need-is-absent-requires
 is-absent-requires c κs = search needs
-
-faulted-requires-2 : tie.Need-faulted-requires-2
-faulted-requires-2 c κs = search needs
 
 same-length : tie.Need-same-length
 same-length c = search needs
 
 returns-2 : tie.Need-returns-2
 unfolding executing perform meaning microSteps microStep monitorSteps monitorStep
-returns-2 c = rw (← (c .before .before .before .before .before .is-task .ensures), c .before .before .before .before .if1 .left, ← (c .before .before .is-absent .ensures), c .before .if2 .taken, c .faulted2 .ensures)
+returns-2 c = (rw (← (c .before .before .before .before .is-task .ensures), c .before .before .before .if1 .left, ← (c .before .is-absent .ensures), c .if2 .taken), search needs)
 
 word-at-requires : tie.Need-word-at-requires
 word-at-requires c κs = search needs
 
-add-with-im : tie.Need-add-with-im
-add-with-im c = search needs
+add-set-im : tie.Need-add-set-im
+add-set-im c = search needs
 
-with-im-requires : tie.Need-with-im-requires
-with-im-requires c κs = search needs
-
-done-requires : tie.Need-done-requires
-done-requires c κs = search needs
+set-im-requires : tie.Need-set-im-requires
+set-im-requires c κs = search needs
 
 same-length-2 : tie.Need-same-length-2
 same-length-2 c = search needs
 
 returns-3 : tie.Need-returns-3
 unfolding executing perform meaning microSteps microStep monitorSteps monitorStep
-returns-3 c = rw (← (c .before .before .before .before .before .before .before .before .is-task .ensures), c .before .before .before .before .before .before .before .if1 .left, ← (c .before .before .before .before .before .is-absent .ensures), c .before .before .before .before .if2 .left, ← (c .before .before .word-at .ensures .0), ← (c .before .with-im .ensures), c .done .ensures)
+returns-3 c = (rw (← (c .before .before .before .before .before .before .before .before .is-task .ensures), c .before .before .before .before .before .before .before .if1 .left, ← (c .before .before .before .before .before .is-absent .ensures), c .before .before .before .before .if2 .left, ← (c .before .before .word-at .ensures .0), ← (c .set-im .ensures .0)), search needs)
 
 pub ml-spec : {M : Type 1} → statement M
 ml-spec =
     tie.close
     (tie.spec
     is-task-requires
-    faulted-requires
     returns
     is-absent-requires
-    faulted-requires-2
     same-length
     returns-2
     word-at-requires
-    add-with-im
-    with-im-requires
-    done-requires
+    add-set-im
+    set-im-requires
     same-length-2
     returns-3)

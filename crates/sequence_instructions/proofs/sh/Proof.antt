@@ -14,17 +14,13 @@ is-high-requires c κs = search needs
 skip-if-requires : tie.Need-skip-if-requires
 skip-if-requires c κs = search needs
 
-done-requires : tie.Need-done-requires
-done-requires c κs = search needs
-
 same-length : tie.Need-same-length
 same-length c = search needs
 
 returns : tie.Need-returns
 unfolding executing perform meaning microSteps microStep monitorSteps monitorStep
-returns c = rw (← (c .before .before .before .word-at .ensures .0), ← (c .before .before .is-high .ensures), ← (c .before .skip-if .ensures), c .done .ensures)
+returns c = (rw (← (c .before .before .before .word-at .ensures .0), ← (c .before .before .is-high .ensures), ← (c .skip-if .ensures .0)), search needs)
 
 pub sh-spec : {M : Type 1} → statement M
 sh-spec =
-    tie.close
-    (tie.spec word-at-requires is-high-requires skip-if-requires done-requires same-length returns)
+    tie.close (tie.spec word-at-requires is-high-requires skip-if-requires same-length returns)

@@ -14,17 +14,13 @@ is-low-requires c κs = search needs
 skip-if-requires : tie.Need-skip-if-requires
 skip-if-requires c κs = search needs
 
-done-requires : tie.Need-done-requires
-done-requires c κs = search needs
-
 same-length : tie.Need-same-length
 same-length c = search needs
 
 returns : tie.Need-returns
 unfolding executing perform meaning microSteps microStep monitorSteps monitorStep
-returns c = rw (← (c .before .before .before .word-at .ensures .0), ← (c .before .before .is-low .ensures), ← (c .before .skip-if .ensures), c .done .ensures)
+returns c = (rw (← (c .before .before .before .word-at .ensures .0), ← (c .before .before .is-low .ensures), ← (c .skip-if .ensures .0)), search needs)
 
 pub sl-spec : {M : Type 1} → statement M
 sl-spec =
-    tie.close
-    (tie.spec word-at-requires is-low-requires skip-if-requires done-requires same-length returns)
+    tie.close (tie.spec word-at-requires is-low-requires skip-if-requires same-length returns)

@@ -8,15 +8,12 @@ use Rattle.sequence_instructions.proofs.sp.Tie as tie
 is-absent-requires : tie.Need-is-absent-requires
 is-absent-requires c κs = search needs
 
-faulted-requires : tie.Need-faulted-requires
-faulted-requires c κs = search needs
-
 same-length : tie.Need-same-length
 same-length c = search needs
 
 returns : tie.Need-returns
 unfolding executing perform meaning microSteps microStep monitorSteps monitorStep
-returns c = rw (← (c .before .before .is-absent .ensures), c .before .if1 .taken, c .faulted .ensures)
+returns c = (rw (← (c .before .is-absent .ensures), c .if1 .taken), search needs)
 
 is-forbidden-requires : tie.Need-is-forbidden-requires
 is-forbidden-requires c κs = search needs
@@ -24,26 +21,21 @@ is-forbidden-requires c κs = search needs
 skip-if-requires : tie.Need-skip-if-requires
 skip-if-requires c κs = search needs
 
-done-requires : tie.Need-done-requires
-done-requires c κs = search needs
-
 same-length-2 : tie.Need-same-length-2
 same-length-2 c = search needs
 
 returns-2 : tie.Need-returns-2
 unfolding executing perform meaning microSteps microStep monitorSteps monitorStep
-returns-2 c = rw (← (c .before .before .before .before .before .is-absent .ensures), c .before .before .before .before .if1 .left, ← (c .before .before .is-forbidden .ensures), ← (c .before .skip-if .ensures), c .done .ensures)
+returns-2 c = (rw (← (c .before .before .before .before .before .before .is-absent .ensures), c .before .before .before .before .before .if1 .left, ← (c .before .before .is-forbidden .ensures), ← (c .skip-if .ensures .0)), search needs)
 
 pub sp-spec : {M : Type 1} → statement M
 sp-spec =
     tie.close
     (tie.spec
     is-absent-requires
-    faulted-requires
     same-length
     returns
     is-forbidden-requires
     skip-if-requires
-    done-requires
     same-length-2
     returns-2)

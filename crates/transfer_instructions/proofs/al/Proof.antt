@@ -8,15 +8,12 @@ use Rattle.transfer_instructions.proofs.al.Tie as tie
 put-word-requires : tie.Need-put-word-requires
 put-word-requires c κs = search needs
 
-done-requires : tie.Need-done-requires
-done-requires c κs = search needs
-
 same-length : tie.Need-same-length
 same-length c = search needs
 
 returns : tie.Need-returns
 unfolding executing perform meaning microSteps microStep monitorSteps monitorStep
-returns c = rw (← (c .before .before .before .put-word .ensures), c .done .ensures)
+returns c = (rw (← (c .before .before .put-word .ensures)), search needs)
 
 pub al-spec : {M : Type 1} → statement M
-al-spec = tie.close (tie.spec put-word-requires done-requires same-length returns)
+al-spec = tie.close (tie.spec put-word-requires same-length returns)

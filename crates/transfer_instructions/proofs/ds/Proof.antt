@@ -8,28 +8,22 @@ use Rattle.transfer_instructions.proofs.ds.Tie as tie
 is-absent-requires : tie.Need-is-absent-requires
 is-absent-requires c κs = search needs
 
-faulted-requires : tie.Need-faulted-requires
-faulted-requires c κs = search needs
-
 same-length : tie.Need-same-length
 same-length c = search needs
 
 returns : tie.Need-returns
 unfolding executing perform meaning microSteps microStep monitorSteps monitorStep
-returns c = rw (← (c .before .before .is-absent .ensures), c .before .if1 .taken, c .faulted .ensures)
+returns c = (rw (← (c .before .is-absent .ensures), c .if1 .taken), search needs)
 
 is-violation-requires : tie.Need-is-violation-requires
 is-violation-requires c κs = search needs
-
-faulted-requires-2 : tie.Need-faulted-requires-2
-faulted-requires-2 c κs = search needs
 
 same-length-2 : tie.Need-same-length-2
 same-length-2 c = search needs
 
 returns-2 : tie.Need-returns-2
 unfolding executing perform meaning microSteps microStep monitorSteps monitorStep
-returns-2 c = rw (← (c .before .before .before .before .before .is-absent .ensures), c .before .before .before .before .if1 .left, ← (c .before .before .is-violation .ensures), c .before .if2 .taken, c .faulted2 .ensures)
+returns-2 c = (rw (← (c .before .before .before .before .before .is-absent .ensures), c .before .before .before .before .if1 .left, ← (c .before .is-violation .ensures), c .if2 .taken), search needs)
 
 word-at-requires : tie.Need-word-at-requires
 word-at-requires c κs = search needs
@@ -43,15 +37,12 @@ first-word-requires c κs = search needs
 is-violation-requires-2 : tie.Need-is-violation-requires-2
 is-violation-requires-2 c κs = search needs
 
-faulted-requires-3 : tie.Need-faulted-requires-3
-faulted-requires-3 c κs = search needs
-
 same-length-3 : tie.Need-same-length-3
 same-length-3 c = search needs
 
 returns-3 : tie.Need-returns-3
 unfolding executing perform meaning microSteps microStep monitorSteps monitorStep
-returns-3 c = rw (← (c .before .before .before .before .before .before .before .before .before .before .before .before .before .before .before .is-absent .ensures), c .before .before .before .before .before .before .before .before .before .before .before .before .before .before .if1 .left, ← (c .before .before .before .before .before .before .before .before .before .before .before .before .is-violation .ensures), c .before .before .before .before .before .before .before .before .before .before .before .if2 .left, ← (c .before .before .before .before .before .before .before .before .before .word-at .ensures .0), ← (c .before .before .before .before .before .before .before .put-word .ensures), ← (c .before .before .before .before .first-word .ensures), ← (c .before .before .is-violation2 .ensures), c .before .if3 .taken, c .faulted3 .ensures)
+returns-3 c = (rw (← (c .before .before .before .before .before .before .before .before .before .before .before .before .before .before .before .before .is-absent .ensures), c .before .before .before .before .before .before .before .before .before .before .before .before .before .before .before .if1 .left, ← (c .before .before .before .before .before .before .before .before .before .before .before .before .is-violation .ensures), c .before .before .before .before .before .before .before .before .before .before .before .if2 .left, ← (c .before .before .before .before .before .before .before .before .before .word-at .ensures .0), ← (c .before .before .before .before .before .before .before .put-word .ensures), ← (c .before .before .before .before .first-word .ensures), ← (c .before .is-violation2 .ensures), c .if3 .taken), search needs)
 
 previous-register-requires : tie.Need-previous-register-requires
 previous-register-requires c κs = search needs
@@ -62,38 +53,31 @@ word-at-requires-2 c κs = search needs
 put-word-requires-2 : tie.Need-put-word-requires-2
 put-word-requires-2 c κs = search needs
 
-done-requires : tie.Need-done-requires
-done-requires c κs = search needs
-
 same-length-4 : tie.Need-same-length-4
 same-length-4 c = search needs
 
 returns-4 : tie.Need-returns-4
 unfolding executing perform meaning microSteps microStep monitorSteps monitorStep
-returns-4 c = rw (← (c .before .before .before .before .before .before .before .before .before .before .before .before .before .before .before .before .before .before .before .before .before .before .is-absent .ensures), c .before .before .before .before .before .before .before .before .before .before .before .before .before .before .before .before .before .before .before .before .before .if1 .left, ← (c .before .before .before .before .before .before .before .before .before .before .before .before .before .before .before .before .before .before .before .is-violation .ensures), c .before .before .before .before .before .before .before .before .before .before .before .before .before .before .before .before .before .before .if2 .left, ← (c .before .before .before .before .before .before .before .before .before .before .before .before .before .before .before .before .word-at .ensures .0), ← (c .before .before .before .before .before .before .before .before .before .before .before .before .before .before .put-word .ensures), ← (c .before .before .before .before .before .before .before .before .before .before .before .first-word .ensures), ← (c .before .before .before .before .before .before .before .before .before .is-violation2 .ensures), c .before .before .before .before .before .before .before .before .if3 .left, ← (c .before .before .before .before .before .before .before .previous-register .ensures), ← (c .before .before .before .before .before .word-at2 .ensures .0), ← (c .before .before .before .put-word2 .ensures), c .done .ensures)
+returns-4 c = (rw (← (c .before .before .before .before .before .before .before .before .before .before .before .before .before .before .before .before .before .before .before .before .before .before .before .is-absent .ensures), c .before .before .before .before .before .before .before .before .before .before .before .before .before .before .before .before .before .before .before .before .before .before .if1 .left, ← (c .before .before .before .before .before .before .before .before .before .before .before .before .before .before .before .before .before .before .before .is-violation .ensures), c .before .before .before .before .before .before .before .before .before .before .before .before .before .before .before .before .before .before .if2 .left, ← (c .before .before .before .before .before .before .before .before .before .before .before .before .before .before .before .before .word-at .ensures .0), ← (c .before .before .before .before .before .before .before .before .before .before .before .before .before .before .put-word .ensures), ← (c .before .before .before .before .before .before .before .before .before .before .before .first-word .ensures), ← (c .before .before .before .before .before .before .before .before .is-violation2 .ensures), c .before .before .before .before .before .before .before .if3 .left, ← (c .before .before .before .before .before .before .previous-register .ensures), ← (c .before .before .before .before .word-at2 .ensures .0), ← (c .before .before .put-word2 .ensures)), search needs)
 
 pub ds-spec : {M : Type 1} → statement M
 ds-spec =
     tie.close
     (tie.spec
     is-absent-requires
-    faulted-requires
     same-length
     returns
     is-violation-requires
-    faulted-requires-2
     same-length-2
     returns-2
     word-at-requires
     put-word-requires
     first-word-requires
     is-violation-requires-2
-    faulted-requires-3
     same-length-3
     returns-3
     previous-register-requires
     word-at-requires-2
     put-word-requires-2
-    done-requires
     same-length-4
     returns-4)

@@ -1,0 +1,39 @@
+-- What the code's answers stand for, and steps of the code: no public contract rests on the latter.
+-- Assumes nothing.
+use Prim.Native.Nat.{ℕ, _/_, _%_}
+use mathlib.Core.Path.{_≡_}
+use mathlib.Core.Bool.{Bool, true, false, cond}
+use mathlib.Core.List.{List}
+use Rattle.machine.specs.declared.Control.{Control}
+use Rattle.machine.specs.Records.{resetRecord}
+use Rattle.machine.specs.Store.{key, absent, forbids}
+use Rattle.integer.specs.Sums.{sum24}
+use Rattle.definition.specs.Machine.{Machine, machine}
+use Rattle.running.specs.Runs.{CycleResult, instruction, entry}
+use Rattle.running.specs.Cycle.{fetched}
+use Rattle.row.specs.Row.{withMonitor}
+use Rattle.cycle.specs.declared.CycleEnd.{CycleEnd}
+use Rattle.cycle.specs.declared.CycleEnd.the-variants.{Executed, Reset, Entered}
+
+-- a cycle's answer, with cells and control record
+abbrev pub cycleOf : CycleEnd → List ℕ → Control → CycleResult Machine
+cycleOf Executed s c = instruction (machine s c)
+cycleOf Reset s c = instruction (machine s (resetRecord c))
+cycleOf (Entered k) s c = entry k (machine s c)
+
+-- v is the instruction at IC, with the key of its cell over it
+pub record Fetched (s : List ℕ) (ic v : ℕ) : Type 0 where
+  pub word : v % 16777216 ≡ fetched s ic
+  pub key : v / 16777216 % 8 ≡ key s (ic / 2)
+
+-- IC or IC + 1 does not exist
+unfoldable pub fetchAbsent : List ℕ → ℕ → Bool
+fetchAbsent s ic = cond (absent s ic) true (absent s (sum24 ic 1))
+
+-- Test Protection of a cell with the key q
+unfoldable pub violates : Control → ℕ → Bool
+violates c q = cond (c .monitor) false (forbids (c .pr) q)
+
+-- where it passes, monitor mode := PR(PK) = 1
+unfoldable pub fetchMode : Control → ℕ → Control
+fetchMode c q = cond (violates c q) c (withMonitor c (forbids (c .pr) q))

@@ -1,0 +1,17 @@
+use Rattle.runner.specs.Ends.{runOf}
+use borrow.Author.Needs.{needs}
+use Rattle.runner.proofs.finished.Statement.{statement}
+use Rattle.runner.proofs.finished.Tie as tie
+
+control-of-requires : tie.Need-control-of-requires
+control-of-requires c κs = search needs
+
+control-after-requires : tie.Need-control-after-requires
+control-after-requires c κs = search needs
+
+returns : tie.Need-returns
+unfolding runOf
+returns c = rw (← (c .before .control-of .ensures), ← (c .control-after .ensures))
+
+pub finished-spec : {M : Type 1} → statement M
+finished-spec = tie.close (tie.spec control-of-requires control-after-requires returns)
