@@ -107,7 +107,7 @@ fn enter(s: &mut [u32], n: u32, k: &mut Row)
     row::set_enabled(k, false);
 }
 
-// A place that no store has where IC is odd.
+// The cell of an even IC; of an odd IC a place that no store has: so one comparison tells an even IC that is there.
 fn rotated(ic: u32) -> u32
     requires { ⌜ ic < 16777216 ⌝ }
     ensures { λ r. ⌜ r ≡ ic / 2 + ic % 2 * 2147483648 ⌝ }
@@ -136,7 +136,7 @@ fn displacement(d: u32) -> u32
     ensures value { λ r. ⌜ r ≡ displacement d ⌝ }
     ensures bound { λ r. ⌜ r < 16777216 ⌝ }
 {
-    ((d + 2048) % 4096 + 16775168) % 16777216
+    ((d + 2048) % 4096 + 16775168) % WORD
 }
 
 fn relative(m: u32, ic: u32, a: u32) -> u32
