@@ -5,5 +5,6 @@ pub mod CycleValid
 pub mod CycleIsolates
 pub mod Entries
 pub mod Promises
+pub mod Several
 pub mod Claims
 pub mod Fetched

@@ -5,6 +5,7 @@ pub mod Run
 pub mod Keys
 pub mod Bridge
 pub mod Promises
+pub mod Several
 pub mod Claims
 pub mod Opened
 pub mod Table

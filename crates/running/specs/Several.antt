@@ -1,4 +1,4 @@
--- Mission demand 3 where it speaks of several runs, in the words of the contract of `run`: a call is anything that meets the contract's equation.
+-- Mission demand 3 where it speaks of several runs, in the words of the contract of `rc4000::run`: a call is anything that meets the contract's equation.
 -- Proved in proofs/Several.antt.
 -- Assumes nothing.
 use Prim.Native.Nat.{ℕ, _/_, _≤_}
@@ -11,12 +11,12 @@ use Rattle.machine.specs.declared.Answer.the-variants.{Ended}
 use Rattle.machine.specs.Records.{interruptionProgram}
 use Rattle.definition.specs.Machine.{Machine}
 use Rattle.definition.specs.Protected.{forbiddenIn, InTaskMode, EqualProtected}
 use Rattle.running.specs.Runs.{Ran, added}
 use Rattle.running.specs.Calls.{total}
 use Rattle.running.specs.Run.{runMachine}
 use Rattle.running.specs.Promises.{EqualEntries}
 
--- the clause `exact` of `run`: x is what the call hands back, with the store
+-- the clause `exact` of `rc4000::run`: x is what the call hands back, with the store
 abbrev pub Called : ℕ → ℕ → Machine → Ran Machine → Type 0
 Called lines budget m x = x ≡ runMachine lines budget m
 

@@ -6,12 +6,12 @@ use Rattle.machine.specs.declared.Outcome.the-variants.{Spent, Interrupted, Res
 use Rattle.machine.specs.declared.Answer.{Answer}
 use Rattle.machine.specs.declared.Answer.the-variants.{Refused, Ended}
 use Rattle.definition.specs.Machine.{Machine}
 use Rattle.running.specs.Runs.{Ran, added, thenBy, thenRun}
 use Rattle.running.specs.Calls.{calls}
 use Rattle.running.specs.Run.{runMachine, runList}
 use Rattle.running.proofs.Promises.{two-runs, budget-list}
 use Rattle.running.specs.Promises.{EqualEntries}
-use Rattle.rc4000.specs.Several.{TwoCalls, CallsMade, summed, OneCall}
+use Rattle.running.specs.Several.{TwoCalls, CallsMade, summed, OneCall}
 
 pub two-calls : TwoCalls
 two-calls m n x y l₁ b₁ l₂ b₂ k₁ k₂ e f t u h g p q =
