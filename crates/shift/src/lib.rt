@@ -17,56 +17,6 @@ fn count(m: u32) -> u32
     if m < 64 { m } else { 48 }
 }
 
-fn left_step24(x: Shifted) -> Shifted
-    requires { ⌜ (x .word < 2 ^ 24) × (x .over < 2) ⌝ }
-    ensures { λ r. ⌜ (r ≡ leftStep 24 x) × (r .word < 2 ^ 24) × (r .over < 2) ⌝ }
-{
-    let w = x.word;
-    let d = (w / 8388608 + w / 4194304 % 2) % 2;
-    Shifted {
-        word: w * 2 % 16777216,
-        over: registers::larger(x.over, d as u32),
-    }
-}
-
-fn left24(n: u32, w: u64) -> Shifted
-    requires { ⌜ w < 2 ^ 24 ⌝ }
-    ensures { λ r. ⌜ (r ≡ iter (leftStep 24) n (record { word = w; over = 0 })) × (r .word < 2 ^ 24) × (r .over < 2) ⌝ }
-{
-    let mut x = Shifted { word: w, over: 0 };
-    for i in 0..n {
-        x = left_step24(x);
-    }
-    x
-}
-
-fn right24(n: u32, w: u64) -> u64
-    requires { ⌜ w < 2 ^ 24 ⌝ }
-    ensures { λ r. ⌜ (r ≡ iter (asr 24) n w) × (r < 2 ^ 24) ⌝ }
-{
-    let mut x = w;
-    for i in 0..n {
-        x = x / 2 + x / 8388608 * 8388608;
-    }
-    x
-}
-
-// AS
-pub fn arithmetic24(sb: u32, w: u32) -> Shifted
-    requires { ⌜ (sb < 2 ^ 24) × (w < 2 ^ 24) ⌝ }
-    ensures value { λ r. ⌜ r ≡ arithmetic 24 sb w ⌝ }
-    ensures bounds { λ r. ⌜ (r .word < 2 ^ 24) × (r .over < 2) ⌝ }
-{
-    if sb < 8388608 {
-        left24(count(sb), w as u64)
-    } else {
-        Shifted {
-            word: right24(count(16777216 - sb), w as u64),
-            over: 0,
-        }
-    }
-}
-
 fn left_step48(x: Shifted) -> Shifted
     requires { ⌜ (x .word < 2 ^ 48) × (x .over < 2) ⌝ }
     ensures { λ r. ⌜ (r ≡ leftStep 48 x) × (r .word < 2 ^ 48) × (r .over < 2) ⌝ }
@@ -117,38 +67,16 @@ pub fn arithmetic48(sb: u32, x: u64) -> Shifted
     }
 }
 
-fn logical_left24(n: u32, w: u32) -> u32
-    requires { ⌜ w < 2 ^ 24 ⌝ }
-    ensures { λ r. ⌜ (r ≡ iter (shl 24) n w) × (r < 2 ^ 24) ⌝ }
-{
-    let mut x = w;
-    for i in 0..n {
-        x = x * 2 % 16777216;
-    }
-    x
-}
-
-fn logical_right24(n: u32, w: u32) -> u32
-    requires { ⌜ w < 2 ^ 24 ⌝ }
-    ensures { λ r. ⌜ (r ≡ iter shr n w) × (r < 2 ^ 24) ⌝ }
-{
-    let mut x = w;
-    for i in 0..n {
-        x = x / 2;
-    }
-    x
-}
-
-// LS
-pub fn logical24(sb: u32, w: u32) -> u32
+// AS: W stands at the left of 48 bits, where the sign is.
+pub fn arithmetic24(sb: u32, w: u32) -> Shifted
     requires { ⌜ (sb < 2 ^ 24) × (w < 2 ^ 24) ⌝ }
-    ensures value { λ r. ⌜ r ≡ logical 24 sb w ⌝ }
-    ensures bound { λ r. ⌜ r < 2 ^ 24 ⌝ }
+    ensures value { λ r. ⌜ r ≡ arithmetic 24 sb w ⌝ }
+    ensures bounds { λ r. ⌜ (r .word < 2 ^ 24) × (r .over < 2) ⌝ }
 {
-    if sb < 8388608 {
-        logical_left24(count(sb), w)
-    } else {
-        logical_right24(count(16777216 - sb), w)
+    let r = arithmetic48(sb, w as u64 * 16777216);
+    Shifted {
+        word: r.word / 16777216,
+        over: r.over,
     }
 }
 
@@ -185,4 +113,14 @@ pub fn logical48(sb: u32, x: u64) -> u64
     } else {
         logical_right48(count(16777216 - sb), x)
     }
+}
+
+// LS: W stands at the right of 48 bits.
+pub fn logical24(sb: u32, w: u32) -> u32
+    requires { ⌜ (sb < 2 ^ 24) × (w < 2 ^ 24) ⌝ }
+    ensures value { λ r. ⌜ r ≡ logical 24 sb w ⌝ }
+    ensures bound { λ r. ⌜ r < 2 ^ 24 ⌝ }
+{
+    let r = logical48(sb, w as u64);
+    (r % 16777216) as u32
 }

@@ -1,40 +1,18 @@
-use Rattle.shift.specs.Shift.{logical}
-use borrow.Author.Tests.{lt-ltb, le-ltb}
+use mathlib.Core.Path.{ap, _∙_}
+use Prim.Native.Nat.{ℕ, _%_, _^_}
 use borrow.Author.Needs.{needs}
+use Rattle.shift.proofs.Narrow.{at-right}
 use Rattle.shift.proofs.logical24.Statement.{statement}
 use Rattle.shift.proofs.logical24.Tie as tie
 
-count-requires : tie.Need-count-requires
-count-requires c κs = search needs
+logical48-requires : tie.Need-logical48-requires
+logical48-requires c κs = search needs
 
-logical-left24-requires : tie.Need-logical-left24-requires
-logical-left24-requires c κs = search needs
-
-sub-count : tie.Need-sub-count
-sub-count c = search needs
-
-count-requires-2 : tie.Need-count-requires-2
-count-requires-2 c κs = search needs
-
-logical-right24-requires : tie.Need-logical-right24-requires
-logical-right24-requires c κs = search needs
+cast-result : tie.Need-cast-result
+cast-result c = search needs
 
 returns : tie.Need-returns
-unfolding logical
-returns c = (rw (lt-ltb _ _ (c .before .before .if1 .taken)) (cc), search needs)
-
-returns-2 : tie.Need-returns-2
-unfolding logical
-returns-2 c = (rw (le-ltb _ _ (c .before .before .if1 .left)) (cc), search needs)
+returns c = (ap (λ (x : ℕ). x % 2 ^ 24) (c .logical48 .ensures .0) ∙ at-right _ _ (c .before .pre .1), search needs)
 
 pub logical24-spec : {M : Type 1} → statement M
-logical24-spec =
-    tie.close
-    (tie.spec
-    count-requires
-    logical-left24-requires
-    sub-count
-    count-requires-2
-    logical-right24-requires
-    returns
-    returns-2)
+logical24-spec = tie.close (tie.spec logical48-requires cast-result returns)

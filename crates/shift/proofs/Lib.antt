@@ -1,0 +1,2 @@
+-- Laws that the proofs of `shift` cite.
+pub mod Narrow
