@@ -6,19 +6,21 @@ usage: tools/statements.py               one line for each fault, or 'N statemen
        tools/statements.py --write       sets the proofs and edits of every row of docs/PROMISES.md that names a statement or a definition, then checks
        tools/statements.py --self-test   checks; then damages proofs, statements, definitions, edits and rows, one kind of damage after the other, and sees the check tell each
 
-Statement:  a closed type, `pub Name : Type 0`, in specs/Promises.antt, Several.antt, Claims.antt, Grammar.antt, Contents.antt or Numbers.antt of a crate. There is
-            none in another file of specs/, save ELSEWHERE.
+Statement:  a closed type, `pub Name : Type 0`, in specs/Promises.antt, Several.antt, Claims.antt, Grammar.antt, Contents.antt, Numbers.antt or Protected.antt of a
+            crate. There is none in another file of specs/, save ELSEWHERE, and there are LEAST or more.
 Definition: any other public item of these files: what the statements are said with. It has no proof.
 Proof:      `pub name : Name`, the name in kebab case, in proofs/ of the crate, with `Name` imported from the statement's file under that name.
 Edit:       crates/CRATE/must-fail/*.edit. Of a statement: `# Name: ..` as its first line, of the statement's own text or of what it uses in its file. Of a definition: any
             with an `old:` in the definition's own text. Every statement has one, and every definition save UNEDITED.
 Row:        in a table `sentence | statement | proof | edits` of docs/PROMISES.md: statements and definitions, their proofs and their edits, as `CRATE/EDIT`. One for each
             statement and each definition that has an edit. All other edits stand in the section "Wrong answers ruled out".
+Contract:   each clause of each public call of rc4000 and capi has its row `call | clause | contract` in docs/PROMISES.md, word for word; there is no `requires`.
 """
 import functools, glob, os, re, sys
 from typing import NamedTuple
 
-FILES = "Promises", "Several", "Claims", "Grammar", "Contents", "Numbers"
+FILES = "Promises", "Several", "Claims", "Grammar", "Contents", "Numbers", "Protected"
+LEAST = 56      # statements: a request adds to them
 PLACE = rf"crates/(\w+)/(specs/(?:{'|'.join(FILES)})\.antt)"
 # closed types that claim nothing
 ELSEWHERE = {"crates/definition/specs/MicroOps.antt: Value"}
@@ -114,8 +116,28 @@ def place_faults(tree, found):
             yield from (f"{path}: {x} is a closed type, but no file of statements" for x in re.findall(CLOSED, text) if f"{path}: {x}" not in ELSEWHERE)
         elif re.fullmatch(PLACE, path) and path not in {s.path() for s in found}:
             yield f"{path}: no statement and no definition"
+    if sum(1 for s in found if s.proof) < LEAST:
+        yield f"fewer than {LEAST} statements"
     names = [s.name for s in found]
     yield from (f"{s.path()}: another item is named {s.name}" for s in found if names.count(s.name) > 1)
+
+
+def contracts(tree):
+    """(call, clause, text) of the public calls; the clause of a `requires` is 'requires'"""
+    for crate in "rc4000", "capi":
+        for m in re.finditer(r'(?ms)^pub (?:extern "C" )?fn (\w+).*?^\{$', tree[f"crates/{crate}/src/lib.rt"]):
+            for kind, clause, text in re.findall(r"(?m)^    (requires|ensures) ?(\w*) \{ (.*) \}$", m[0]):
+                yield f"{crate}::{m[1]}", clause if kind == "ensures" else kind, text
+
+
+def contract_faults(tree):
+    """The page has each clause of each public call, and the calls have each clause of the page."""
+    given = {f"| `{call}` | {clause and f'`{clause}`'} | `{text}` |" for call, clause, text in contracts(tree)}
+    listed = {line for line in tree[PAGE].splitlines() if re.match(r"\| `(?:rc4000|capi)::\w+` \|", line)}
+    yield from (f"{PAGE}: no row {line}" for line in sorted(given - listed))
+    yield from (f"{PAGE}: not a clause of the call: {line}" for line in sorted(listed - given))
+    yield from (f"{call} asks something of its caller: {text}" for call, clause, text in contracts(tree) if clause == "requires")
+    yield from (f"crates/{crate} has no public call with a contract" for crate in ("rc4000", "capi") if not any(x.startswith(f"| `{crate}::") for x in given))
 
 
 def proofs(tree):
@@ -229,6 +251,7 @@ def faults(tree):
     listed = due(tree, found, all_edits)
     return [
         *place_faults(tree, found),
+        *contract_faults(tree),
         *proof_faults(tree, found),
         *form_faults(tree, all_edits),
         *edit_faults(tree, found, all_edits),
@@ -269,6 +292,9 @@ def damages(tree):
     yield [x for x in labels if not any(x in own for _, own in listed.values())], "edit not on the page", changed(tree, PAGE, f"`{edit}`", "")
     for what, old, new in ("without its title", r"\A.*", "#"), ("of a text that is not there", "(?m)^old: .*", "old: @@@"), ("of a proof", "(?m)^file: .*", "file: proofs/Lib.antt"):
         yield labels, "edit " + what, {p: re.sub(old, new, t) if p.endswith(".edit") else t for p, t in tree.items()}
+    calls = {call.split("::")[1] for call, _, _ in contracts(tree)}
+    yield calls, "contract dropped", {p: re.sub(r"(?m)^    ensures .*\n", "", t) if p.endswith("/src/lib.rt") else t for p, t in tree.items()}
+    yield calls, "contract not on the page", changed(tree, PAGE, r"(?m)^\| `(?:rc4000|capi)::.*\n", "")
     claims = next(p for p in tree if p.endswith("/specs/Claims.antt"))
     for more in "abbrev pub Added : Type 0", "pub Added :\n    Type 1", "abbrev pub Added : ℕ → Type 0", "pub record Added (n : ℕ) : Type 0 where":
         yield ["Added"], "added", {**tree, claims: f"{tree[claims]}\n{more}\n"}

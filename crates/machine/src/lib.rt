@@ -1,5 +1,5 @@
-// The machine's values, and one total function for each primitive on cells and control record: a cell that is not there reads as 0, and a write
-// to it does nothing; a value is reduced to the width of what it goes into. So no public function asks anything of its caller.
+// The machine's values, and one total function for each primitive on cells: a cell that is not there reads as 0, and a write to it does nothing; a
+// value is reduced to the width of what it goes into. So no public function asks anything of its caller.
 ghost use mathlib.Core.Path.{_≡_};
 ghost use Prim.Native.Nat.{_+_, _*_, _/_, _%_, _<_};
 ghost use lib.ListN.{getD, set};
@@ -12,7 +12,10 @@ ghost use Rattle.machine.specs.Format.{instructionFields};
 // 2^24, the number of a word's values; the same for a double-length register.
 pub const WORD: u32 = 16777216;
 
-pub const LONG_WORD: u64 = 16777216;
+const LONG_WORD: u64 = 16777216;
+
+// The weight of bit 0 of a word.
+pub const BIT_0: u32 = 8388608;
 
 // The weights of IR(1), integer overflow, and IR(2), floating-point overflow.
 pub const INTEGER_OVERFLOW: u32 = 4194304;
@@ -100,7 +103,7 @@ impl Instruction {
     }
 }
 
-// Why an instruction exception was met, with the address whose test failed.
+// Why an instruction exception was met, with the address whose test failed: said by the definition, not yet told by the code.
 pub enum Fault {
     Unassigned,
     Absent(u32),
@@ -361,7 +364,7 @@ pub fn previous_register(w: u32) -> u32
     if w % 4 == 0 { 3 } else { w % 4 - 1 }
 }
 
-pub fn with_ir(c: Control, v: u32) -> Control
+fn with_ir(c: Control, v: u32) -> Control
     ensures { λ r. ⌜ r ≡ withIR c v ⌝ }
 {
     Control {

@@ -17,10 +17,10 @@ use machine::Run;
 use row::Row;
 
 // How the cycles ended; cells and row stand beside it.
-pub struct RunEnd {
-    pub answer: Answer,
-    pub executed: u32,
-    pub entries: u32,
+struct RunEnd {
+    answer: Answer,
+    executed: u32,
+    entries: u32,
 }
 
 // Does the run go on after this cycle.

@@ -6,6 +6,7 @@ ghost use Rattle.row.specs.Answers.{ending, endingOf};
 ghost use Rattle.definition.specs.Codes.{executing};
 ghost use Rattle.definition.specs.Meaning.{JL, SH, SL, SE, SN, SO, SZ, SX, SP, JE, JD, IC, IS, ML, MS, XL, XS, PL, PS, KL, KS, IO, AW};
 ghost use Rattle.definition.specs.MicroOps.{skipped};
+use machine::BIT_0;
 use machine::Control;
 use machine::WORD;
 use row::End;
@@ -223,7 +224,7 @@ pub fn ml(s: &mut [u32], k: &mut Row, w: u32, sb: u32) -> End
         return End::Faulted;
     }
     let y = machine::word_at(s, sb / 2);
-    row::set_im(k, 8388608 + y % 8388608);
+    row::set_im(k, BIT_0 + y % BIT_0);
     End::Done
 }
 

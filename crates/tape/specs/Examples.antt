@@ -1,4 +1,4 @@
--- Document 01's tape of 32 bytes: a control record and the end.
+-- Tapes by computation: document 01's of 32 bytes, and others.
 -- Assumes nothing.
 use Prim.Native.Nat.{ℕ}
 use mathlib.Core.Bool.{Bool, true, false}
