@@ -45,7 +45,7 @@ fdStep x q =
 abbrev pub fdStop : Quotient → Bool
 fdStop q = not (eqb (sign 36 (q .bf)) (bit 34 (q .bf)))
 
--- for SC := SC, SC - 1 while BF(0) = BF(1) do ..; 71 passes are enough (specs/Claims.antt)
+-- for SC := SC, SC - 1 while BF(0) = BF(1) do ..; 71 passes are enough (`arithmetic_promises`, DivideEnds)
 unfoldable pub fdLoop : ℕ → ℕ → Quotient
 fdLoop x af = until fdStop (fdStep x) 71 (fdStart x af)
 

@@ -4,4 +4,3 @@ pub mod Add
 pub mod Multiply
 pub mod Divide
 pub mod Convert
-pub mod Claims

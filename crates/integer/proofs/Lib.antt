@@ -1,4 +1,2 @@
--- Laws of the operations on single bits, of the adder and of double words.
+-- Laws of the operations on single bits.
 pub mod Digits
-pub mod Double
-pub mod Adder

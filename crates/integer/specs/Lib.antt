@@ -1,7 +1,4 @@
--- What the contracts of `integer` cite, and what is claimed of it.
+-- What the contracts of `integer` cite.
 pub mod Sums
 pub mod Bitwise
 pub mod Skip
-pub mod Elementary
-pub mod Adder
-pub mod Claims

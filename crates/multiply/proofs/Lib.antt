@@ -1,3 +1,2 @@
--- The law of the steps on ARBR with an offset, and the law of the product.
+-- The law of the steps on ARBR with an offset.
 pub mod Offset
-pub mod Product

@@ -1,3 +1,2 @@
--- What the contract of `multiply` cites, and what is claimed of it.
+-- What the contract of `multiply` cites.
 pub mod Wm
-pub mod Claims

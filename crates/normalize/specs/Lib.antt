@@ -1,3 +1,2 @@
--- What the contracts of `normalize` cite, and what is claimed of it.
+-- What the contracts of `normalize` cite.
 pub mod Norm
-pub mod Claims

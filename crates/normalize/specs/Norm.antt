@@ -17,7 +17,7 @@ normalAt n x = normal n (x .word)
 abbrev pub normStep : ℕ → Normal → Normal
 normStep n x = record { word = shl n (x .word); shifts = x .shifts + 1 }
 
--- while W(0) = W(1) do W := shiftleft W, tested before the first shift too (docs/DECISIONS.md C6). The bound 48 suffices for every width up to 48 and every register but zero (Claims, NormalizingEnds).
+-- while W(0) = W(1) do W := shiftleft W, tested before the first shift too (docs/DECISIONS.md C6). The bound 48 suffices for every width up to 48 and every register but zero (`arithmetic_promises`, NormalizingEnds).
 unfoldable pub normalize : ℕ → ℕ → Normal
 normalize n w = until (normalAt n) (normStep n) 48 (record { word = w; shifts = 0 })
 

@@ -2,4 +2,3 @@
 pub mod Round
 pub mod Store
 pub mod Convert
-pub mod Claims

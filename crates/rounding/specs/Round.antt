@@ -16,7 +16,7 @@ abbrev pub afStep : Normal → Normal
 afStep x = record { word = shl 39 (x .word); shifts = x .shifts + 1 }
 
 -- for SC := SC, SC - 1 while AF(0) = AF(1) do AF := shiftleft AF, tested before the first shift too (docs/DECISIONS.md C6).
--- The bound 48 suffices for every AF but zero with AF(-1) = AF(0) (Claims, LeftShiftsEnd).
+-- The bound 48 suffices for every AF but zero with AF(-1) = AF(0) (`arithmetic_promises`, LeftShiftsEnd).
 unfoldable pub afLeft : ℕ → Normal
 afLeft a = until afNormal afStep 48 (record { word = a; shifts = 0 })
 
@@ -47,7 +47,7 @@ roundUp x = record { af = (x .af + 4) % 2 ^ 39 / 4 * 4; sc = x .sc }
 abbrev pub roundAgain : Unpacked → Unpacked
 roundAgain x = normalizeOnce (roundUp x)
 
--- if AF(36) = 1 then round and goto Again: at most once (specs/Claims.antt)
+-- if AF(36) = 1 then round and goto Again: at most once (`arithmetic_promises`, TwoPasses)
 unfoldable pub normalizeRound : Unpacked → Unpacked
 normalizeRound x = until noRounding roundAgain 1 (normalizeOnce x)
 

@@ -10,11 +10,11 @@ use borrow.Author.Tests.{eq-eqb, ne-eqb, eqb-false, not-true}
 use Rattle.registers.specs.Reg.{until}
 use Rattle.registers.proofs.Loops.{until-stop, until-go, until-keep}
 use Rattle.normalize.proofs.Grow.{double}
 use Rattle.floating.specs.declared.division.Quotient.{Quotient}
 use Rattle.floating.specs.Operands.{fraction, registerFraction, storageFraction, signedSF}
-use Rattle.floating.specs.Claims.{DividePasses}
+use Rattle.arithmetic_promises.specs.Claims.{DividePasses}
 use Rattle.floating.specs.Divide.{fdStart, fdStep, fdStop, fdLoop}
-use Rattle.floating.proofs.Ends.{divide-ends}
+use Rattle.arithmetic_promises.proofs.Ends.{divide-ends}
 
 -- at most n passes more
 at-most : (x n : ℕ) (q : Quotient) → until fdStop (fdStep x) n q .passes ≤ q .passes + n

@@ -9,8 +9,8 @@ use native.Mathlib.Numerals.{add-one, one-add}
 use lib.Pow.{mod-pow-add, shr-shr, pow-add, pow-pos}
 use borrow.Author.Tests.{eq-eqb}
 use Rattle.registers.specs.Reg.{signed, iter}
 use Rattle.multiply.specs.Wm.{wmStep, wmLast, wm}
-use Rattle.multiply.specs.Claims.{ProductLaw}
+use Rattle.arithmetic_promises.specs.Claims.{ProductLaw}
 
 -- ---- a step, of ARBR alone
 step-1 : (x p : ℕ) → p % 2 ≡ 1 → (q : ℕ) → q ≡ (p + x * 2 ^ 24) % 2 ^ 49 → wmStep x p ≡ q / 2 + q / 2 ^ 48 * 2 ^ 48

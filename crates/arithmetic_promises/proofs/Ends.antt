@@ -12,10 +12,10 @@ use lib.Dec.{eqb}
 use borrow.Author.Tests.{eq-eqb, ne-eqb, eqb-true, not-false}
 use Rattle.registers.proofs.Loops.{until-ends}
 use Rattle.normalize.proofs.Grow.{exponent-le, double}
 use Rattle.floating.specs.declared.division.Quotient.{Quotient}
 use Rattle.floating.specs.Operands.{fraction, registerFraction, storageFraction, signedSF}
-use Rattle.floating.specs.Claims.{DivideEnds}
+use Rattle.arithmetic_promises.specs.Claims.{DivideEnds}
 use Rattle.floating.specs.Divide.{fdStart, fdAdd, fdStep, fdStop, fdLoop, nextDigit}
 
 -- ---- AF while every digit equals the sign, of a positive and of a negative dividend
 record Pos (ξ v i a : ℕ) : Type 0 where

@@ -3,8 +3,8 @@ use mathlib.Core.Path.{_≡_, ap, ap₂, _∙_}
 use Prim.Native.Nat.{ℕ, _+_, _-_, _*_, _/_, _%_, _^_, _<_}
 use native.Mathlib.Omega.{arith}
 use Rattle.registers.specs.Reg.{signed, complement}
 use Rattle.integer.specs.Sums.{adder, sum, difference, sumWithCarry, differenceWithCarry}
-use Rattle.integer.specs.Claims.{DoubleSum, DoubleDifference}
+use Rattle.arithmetic_promises.specs.Claims.{DoubleSum, DoubleDifference}
 
 -- the last 24 bits of a word and of its complement, extended
 last-signed : (a : ℕ) → a < 2 ^ 24 → signed 24 25 a % 2 ^ 24 ≡ a

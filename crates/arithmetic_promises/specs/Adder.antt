@@ -4,10 +4,10 @@ use mathlib.Core.Path.{_≡_, refl}
 use mathlib.Core.Bool.{not, cond}
 use lib.Dec.{eqb}
 use Rattle.registers.specs.Reg.{bit, signed, complement, bitsDiffer}
 use Rattle.integer.specs.declared.Sum.{Sum}
 use Rattle.integer.specs.Bitwise.{each}
-use Rattle.integer.specs.Elementary.{negation}
+use Rattle.arithmetic_promises.specs.Elementary.{negation}
 use Rattle.integer.specs.Sums.{difference, sumWithCarry, differenceWithCarry}
 
 -- R, as far as it is set, carry and next carry
 pub record AdderState : Type 0 where

@@ -10,11 +10,11 @@ use lib.Dec.{eqb}
 use lib.Pow.{pow-mono, pow-pos, split, mod-pow-add, high, low}
 use borrow.Author.Tests.{eq-eqb, ne-eqb}
 use Rattle.registers.specs.Reg.{bit, sign, signed, complement}
 use Rattle.integer.specs.Bitwise.{each}
 use Rattle.integer.specs.Sums.{adder, sum, difference, sumWithCarry, differenceWithCarry, sum24}
-use Rattle.integer.specs.Elementary.{extension, notBit, negation}
-use Rattle.integer.specs.Adder.{AdderState, takeCarry, addBits, adderLoop, addition, testInteger}
-use Rattle.integer.specs.Claims.{SignedLaw, ShiftLeftLaw, AccumulatorByAdder, AdderLaw, CarryLaw, NotLaw, SubtractionLaw, SumsByAdder, DifferencesByAdder, AddressSumByAdder, ComparisonByAdder, TwoAdditions, TwoAdditionsOfZero}
+use Rattle.arithmetic_promises.specs.Elementary.{extension, notBit, negation}
+use Rattle.arithmetic_promises.specs.Adder.{AdderState, takeCarry, addBits, adderLoop, addition, testInteger}
+use Rattle.arithmetic_promises.specs.Claims.{SignedLaw, ShiftLeftLaw, AccumulatorByAdder, AdderLaw, CarryLaw, NotLaw, SubtractionLaw, SumsByAdder, DifferencesByAdder, AddressSumByAdder, ComparisonByAdder, TwoAdditions, TwoAdditionsOfZero}
 
 abbrev state : ℕ → ℕ → ℕ → AdderState
 state r c n = record { result = r; carry = c; nextCarry = n }

@@ -5,10 +5,10 @@ use Prim.Native.Nat.{ℕ, _+_, _^_, _≤_, _<_}
 use native.Mathlib.Omega.{arith}
 use borrow.Author.Tests.{eqb-true, not-false}
 use Rattle.registers.proofs.Loops.{until-ends}
 use Rattle.normalize.specs.declared.Normal.{Normal}
 use Rattle.normalize.specs.Norm.{normalAt, normStep, normalize}
-use Rattle.normalize.specs.Claims.{NormalizingEnds}
+use Rattle.arithmetic_promises.specs.Claims.{NormalizingEnds}
 use Rattle.normalize.proofs.Grow.{Apart, grow, apart-lt}
 
 -- after i shifts
 Shifted : ℕ → ℕ → Normal → Type 0

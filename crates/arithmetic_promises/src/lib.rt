@@ -1,0 +1,1 @@
+// What is promised of the arithmetic. No code: see specs/.

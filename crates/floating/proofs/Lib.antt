@@ -1,3 +1,0 @@
--- Laws of floating-point division.
-pub mod Ends
-pub mod Passes
