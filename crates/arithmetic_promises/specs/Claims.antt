@@ -15,7 +15,7 @@ use Rattle.floating.specs.Divide.{fdStart, fdAdd, fdStop, fdLoop}
 use Rattle.arithmetic_promises.specs.Elementary.{extension, leftShift, negation}
 use Rattle.arithmetic_promises.specs.Adder.{addition, subtraction, twoAdditions, testInteger}
 
--- ---- 14.3, Elementary Operations
+-- ---- 14.3: elementary operations, and the sums used
 
 -- 14.3: for every width n the adder's loop gives R = (A + B) mod 2 ** n, and next carry is the carry out; c is a carry in, 0 as printed
 abbrev pub AdderLaw : Type 0
@@ -85,7 +85,7 @@ TwoAdditionsOfZero =
     → (testInteger (twoAdditions 25 (signed 24 25 a) 0) ≡ record { word = a; over = 0; carry = 0 })
     × (difference a 0 ≡ record { word = a; over = 0; carry = 1 })
 
--- ---- 14.7, Normalize and Round Floating
+-- ---- 14.7: Normalize and Round Floating
 
 -- the left shifts end: AF(0) <> AF(1) after them, for every AF but zero with AF(-1) = AF(0)
 abbrev pub LeftShiftsEnd : Type 0
@@ -99,7 +99,7 @@ TwoPasses = (x : Unpacked) → x .af < 2 ^ 39 → noRounding (normalizeRound x) 
 abbrev pub AnyBound : Type 0
 AnyBound = (x : Unpacked) (n : ℕ) → x .af < 2 ^ 39 → until noRounding roundAgain (suc n) (normalizeOnce x) ≡ normalizeRound x
 
--- ---- 14.8, integers
+-- ---- 14.8: AA, SS, WM, NS, ND
 
 -- AA: W by the first sum, then Wpre with its carry, is the sum of the two double words at 48 bits
 abbrev pub DoubleSum : Type 0
@@ -121,7 +121,7 @@ ProductLaw = (w s : ℕ) → w < 2 ^ 24 → s < 2 ^ 24 → wm w s ≡ (signed 24
 abbrev pub NormalizingEnds : Type 0
 NormalizingEnds = (n w : ℕ) → 2 ≤ n → n ≤ 48 → 0 < w → w < 2 ^ n → normalAt n (normalize n w) ≡ true
 
--- ---- 14.8, Divide Floating
+-- ---- 14.8: FD
 
 -- the loop has ended after 71 passes: for every register fraction but 0 and every storage fraction, so wherever AR <> 0
 abbrev pub DivideEnds : Type 0
