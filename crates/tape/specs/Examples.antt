@@ -5,6 +5,7 @@ use mathlib.Core.Bool.{Bool, true, false}
 use mathlib.Core.Path.{_≡_, refl}
 use mathlib.Core.List.{List, [], _∷_, _++_}
 use lib.ListN.{take, replicate}
+use Rattle.machine.specs.Answers.{verdictNumber}
 use Rattle.machine.specs.Records.{freshRecord}
 use Rattle.machine.specs.declared.Control.{Control}
 use Rattle.machine.specs.declared.Refusal.the-variants.{RecordKind, RecordOrder}
@@ -20,9 +21,12 @@ unfoldable pub opened : ℕ
 unfolding lengthOf kindOf payloadOf restOf recordsWithin recordsOf firstOf controlOf kindKnown inOrder lengthFits controlGood judgeControl judgePayload judgeRecord judgeRecords judgeTape sizeFits cellsFit stateFits controlFits judgeStore loadRecord loadRecords loadedControl judgeLoad loading judgeReading remarkSpan cellsFrom blockCells judgeBlock pasted stored
 opened = 0
 
--- with flags f
+-- with flags f and the last byte z
+abbrev pub controlTape : ℕ → ℕ → List ℕ
+controlTape f z = 20 ∷ 0 ∷ 0 ∷ 0 ∷ 2 ∷ 0 ∷ replicate 16 0 ++ (128 ∷ 0 ∷ f ∷ z ∷ 0 ∷ 0 ∷ 0 ∷ 0 ∷ 3 ∷ 0 ∷ [])
+
 abbrev pub flagsTape : ℕ → List ℕ
-flagsTape f = 20 ∷ 0 ∷ 0 ∷ 0 ∷ 2 ∷ 0 ∷ replicate 16 0 ++ (128 ∷ 0 ∷ f ∷ 0 ∷ 0 ∷ 0 ∷ 0 ∷ 0 ∷ 3 ∷ 0 ∷ [])
+flagsTape f = controlTape f 0
 
 abbrev pub scopeTape : List ℕ
 scopeTape = flagsTape 5
@@ -71,6 +75,15 @@ pub bytes-tape : (c : Control)
     }
 unfolding opened
 bytes-tape c = refl
+
+-- flags over 7 and a last byte other than zero are 3
+pub flags-8 : verdictNumber (judgeTape 8 (controlTape 8 0)) ≡ 3
+unfolding opened
+flags-8 = refl
+
+pub last-byte : verdictNumber (judgeTape 8 (controlTape 5 1)) ≡ 3
+unfolding opened
+last-byte = refl
 
 -- an unknown kind after the control record is 7, another record there is 11
 pub unknown-kind : judgeTape 8 (take 26 scopeTape ++ (0 ∷ 0 ∷ 0 ∷ 0 ∷ 9 ∷ 0 ∷ [])) ≡ Rejected RecordKind
