@@ -3,7 +3,7 @@
 use Prim.Native.Nat.{ℕ}
 use mathlib.Core.Path.{_≡_, refl}
 use mathlib.Core.Bool.{Bool, true, false}
-use mathlib.Core.List.{[]}
+use mathlib.Core.List.{List, []}
 use lib.ListN.{replicate}
 use Rattle.machine.specs.declared.Control.{Control}
 use Rattle.machine.specs.declared.Refusal.the-variants.{StoreSize, CellValue, ControlField, TapeEnds}
@@ -11,8 +11,10 @@ use Rattle.acceptance.specs.Accept.{sizeFits, cellFits, cellsFit, judgeStore}
 use Rattle.tape.specs.Layout.{recordsWithin, recordsOf}
 use Rattle.tape.specs.Judge.{judgeRecords, judgeTape}
 use Rattle.tape.specs.Load.{judgeLoad, loading}
+use Rattle.tape.specs.Examples.{opened, scopeTape}
 use Rattle.capi.specs.declared.ControlRecord.{ControlRecord}
-use Rattle.capi.specs.Results.{flagsFit, flagByte, controlIn, recordOf, judgeFlags, refusedRun, refusedState, returned, runCall, resetCall, startCall, loadCall}
+use Rattle.capi.specs.declared.StateResult.{StateResult}
+use Rattle.capi.specs.Results.{flagsFit, flagByte, controlIn, recordOf, judgeFlags, refusedRun, refusedState, Returned, returned, runCall, resetCall, startCall, loadCall}
 
 -- a record with the flag bytes m, e and r, and the record with such flags
 abbrev bytes : ℕ → ℕ → ℕ → ControlRecord
@@ -30,6 +32,10 @@ enabled-byte : (controlIn (bytes 0 1 0) ≡ flags false true false) × (recordOf
 unfolding controlIn recordOf flagByte
 enabled-byte = (refl, refl)
 
+reset-byte : (controlIn (bytes 0 0 1) ≡ flags false false true) × (recordOf (flags false false true) ≡ bytes 0 0 1)
+unfolding controlIn recordOf flagByte
+reset-byte = (refl, refl)
+
 -- a flag byte of 2 and 7 cells: 1
 size-first : runCall 0 0 (replicate 7 0) (bytes 2 0 0) ≡ returned (refusedRun StoreSize (bytes 2 0 0)) (replicate 7 0)
 unfolding runCall judgeFlags flagsFit judgeStore sizeFits
@@ -45,11 +51,26 @@ then-flags : runCall 16777216 65536 (replicate 8 0) (bytes 0 1 2) ≡ returned (
 unfolding runCall judgeFlags flagsFit judgeStore sizeFits cellsFit cellFits
 then-flags = refl
 
-start-flags : startCall (replicate 8 0) (bytes 1 2 1) ≡ returned (refusedState ControlField (bytes 1 2 1)) (replicate 8 0)
+-- the keys refuse each flag byte of 2 with 3
+abbrev threeOf : (List ℕ → ControlRecord → Returned StateResult) → ControlRecord → Type 0
+threeOf key r = key (replicate 8 0) r ≡ returned (record { control = r; refusal = 3 }) (replicate 8 0)
+
+reset-flags : threeOf resetCall (bytes 2 0 0) × threeOf resetCall (bytes 1 2 0) × threeOf resetCall (bytes 1 0 2)
+unfolding resetCall judgeFlags flagsFit judgeStore sizeFits cellsFit cellFits
+reset-flags = (refl, refl, refl)
+
+start-flags : threeOf startCall (bytes 2 0 1) × threeOf startCall (bytes 1 2 1) × threeOf startCall (bytes 1 0 2)
 unfolding startCall judgeFlags flagsFit judgeStore sizeFits cellsFit cellFits
-start-flags = refl
+start-flags = (refl, refl, refl)
 
 -- a load does not test the given record: an empty tape is refused with 6
 load-untested : loadCall [] (replicate 8 0) (bytes 2 2 2) ≡ returned (refusedState TapeEnds (bytes 2 2 2)) (replicate 8 0)
 unfolding loadCall loading judgeLoad judgeTape judgeRecords recordsOf recordsWithin judgeStore sizeFits cellsFit cellFits
 load-untested = refl
+
+-- and document 01's tape loads: PR 128, monitor mode, the reset state
+load-accepted :
+    loadCall scopeTape (replicate 8 0) (bytes 2 2 2)
+    ≡ returned (record { control = record { ic = 0; ir = 0; im = 0; pending = 0; pr = 128; ex = 0; monitor = 1; enabled = 0; reset = 1 }; refusal = 0 }) (replicate 8 0)
+unfolding loadCall recordOf flagByte opened
+load-accepted = refl
