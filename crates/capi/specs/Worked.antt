@@ -52,14 +52,14 @@ unfolding runCall judgeFlags flagsFit judgeStore sizeFits cellsFit cellFits
 then-flags = refl
 
 -- the keys refuse each flag byte of 2 with 3
-abbrev threeOf : (List ℕ → ControlRecord → Returned StateResult) → ControlRecord → Type 0
-threeOf key r = key (replicate 8 0) r ≡ returned (record { control = r; refusal = 3 }) (replicate 8 0)
+abbrev refusedBy3 : (List ℕ → ControlRecord → Returned StateResult) → ControlRecord → Type 0
+refusedBy3 key r = key (replicate 8 0) r ≡ returned (record { control = r; refusal = 3 }) (replicate 8 0)
 
-reset-flags : threeOf resetCall (bytes 2 0 0) × threeOf resetCall (bytes 1 2 0) × threeOf resetCall (bytes 1 0 2)
+reset-flags : refusedBy3 resetCall (bytes 2 0 0) × refusedBy3 resetCall (bytes 1 2 0) × refusedBy3 resetCall (bytes 1 0 2)
 unfolding resetCall judgeFlags flagsFit judgeStore sizeFits cellsFit cellFits
 reset-flags = (refl, refl, refl)
 
-start-flags : threeOf startCall (bytes 2 0 1) × threeOf startCall (bytes 1 2 1) × threeOf startCall (bytes 1 0 2)
+start-flags : refusedBy3 startCall (bytes 2 0 0) × refusedBy3 startCall (bytes 1 2 1) × refusedBy3 startCall (bytes 1 0 2)
 unfolding startCall judgeFlags flagsFit judgeStore sizeFits cellsFit cellFits
 start-flags = (refl, refl, refl)
 
