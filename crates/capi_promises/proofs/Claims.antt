@@ -22,9 +22,9 @@ use Rattle.running.specs.Keys.{pressedBy, resetKey, startKey, pressingReset, pr
 use Rattle.running.specs.Promises.{refusedNumber}
 use Rattle.running.proofs.Promises.{refused-run, refused-only, refusal-numbers}
 use Rattle.tape.specs.Load.{judgeThen, judgeLoad, loadedBy, loading}
 use Rattle.capi.specs.declared.ControlRecord.{ControlRecord}
 use Rattle.capi.specs.Results.{flagsFit, controlIn, judgeFlags, returned, resultBy, runBy, keyBy, loadBy, runCall, resetCall, startCall, loadCall}
-use Rattle.capi.specs.Claims.{numberOf, RunNumbers, RunAsGiven, StateAsGiven, RefusedAsGiven}
+use Rattle.capi_promises.specs.Claims.{numberOf, RunNumbers, RunAsGiven, StateAsGiven, RefusedAsGiven}
 
 -- ---- the numbers of a run
 

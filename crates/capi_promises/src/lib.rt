@@ -1,0 +1,1 @@
+// What is promised of the C calls. No code: see specs/.
