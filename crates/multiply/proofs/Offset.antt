@@ -1,6 +1,6 @@
 -- The steps on q = ARBR + 2 ^ 47, ARBR being signed. Assumes nothing.
-use mathlib.Core.Path.{_≡_}
-use mathlib.Core.Bool.{cond}
+use mathlib.Core.Path.{_≡_, refl, sym, ap, _∙_}
+use mathlib.Core.Bool.{Bool, true, false, cond}
 use lib.Dec.{eqb}
 use Prim.Native.Nat.{ℕ, _+_, _-_, _*_, _/_, _%_, _^_, _≤_, _<_}
 use native.Mathlib.Omega.{arith}
@@ -12,7 +12,7 @@ use Rattle.multiply.specs.Wm.{wmStep, wmLast}
 abbrev pub withoutOffset : ℕ → ℕ
 withoutOffset q = (q + 3 * 2 ^ 47) % 2 ^ 49
 
--- what `step` answers
+-- a step
 abbrev stepped : ℕ → ℕ → ℕ
 stepped y q = q / 2 + cond (eqb (q % 2) 1) y (2 ^ 46)
 
@@ -42,14 +42,52 @@ add-shift x y q hy hq e =
     ]
 
 -- ---- the steps of WM
-pub step-offset : (s q : ℕ) → s < 2 ^ 24 → q < 2 ^ 48 → withoutOffset (stepped (half s) q) ≡ wmStep (signed 24 25 s) (withoutOffset q)
+step-offset : (s q : ℕ) → s < 2 ^ 24 → q < 2 ^ 48 → withoutOffset (stepped (half s) q) ≡ wmStep (signed 24 25 s) (withoutOffset q)
 step-offset s q hs hq =
     let d : (signed 24 25 s + 2 ^ 23) / 2 ^ 25 ≡ s / 2 ^ 23 = omega arith in
     add-shift (signed 24 25 s) (half s) q (omega arith) hq (omega arith)
 
 -- the last step is a step with - x
-pub last-offset : (s q : ℕ) → s < 2 ^ 24 → q < 2 ^ 48 → withoutOffset (stepped (2 ^ 47 - half s) q) ≡ wmLast (signed 24 25 s) (withoutOffset q)
+last-offset : (s q : ℕ) → s < 2 ^ 24 → q < 2 ^ 48 → withoutOffset (stepped (2 ^ 47 - half s) q) ≡ wmLast (signed 24 25 s) (withoutOffset q)
 unfolding wmStep wmLast
 last-offset s q hs hq =
     let d : (2 ^ 25 - signed 24 25 s + 2 ^ 23) / 2 ^ 25 ≡ 1 - s / 2 ^ 23 = omega arith in
     add-shift (2 ^ 25 - signed 24 25 s) (2 ^ 47 - half s) q (omega arith) hq (omega arith)
+
+-- ---- two steps at once: what the first adds is even
+
+even-addend : (b : Bool) (y : ℕ) → y ≡ y / 2 * 2 → cond b y (2 ^ 46) ≡ cond b y (2 ^ 46) / 2 * 2
+even-addend true y e = e
+even-addend false y e = refl
+
+two-steps : (y z q : ℕ) → y ≡ y / 2 * 2 → stepped z (stepped y q) ≡ q / 4 + (cond (eqb (q % 2) 1) y (2 ^ 46) / 2 + cond (eqb (q / 2 % 2) 1) z (2 ^ 46))
+two-steps y z q e =
+    let a = cond (eqb (q % 2) 1) y (2 ^ 46) in
+    let h : a ≡ a / 2 * 2 = even-addend (eqb (q % 2) 1) y e in
+    let same : (q / 2 + a) % 2 ≡ q / 2 % 2 = omega arith in
+    let half : (q / 2 + a) / 2 ≡ q / 4 + a / 2 = omega arith in
+    rw (same, half) (omega arith)
+
+below : (y q : ℕ) → y ≤ 2 ^ 47 → q < 2 ^ 48 → stepped y q < 2 ^ 48
+below y q hy hq = by (eqb (q % 2) 1)
+  where
+    by : (b : Bool) → q / 2 + cond b y (2 ^ 46) < 2 ^ 48
+    by true = omega arith
+    by false = omega arith
+
+-- two steps of WM
+pub pair-offset : (s q : ℕ) {r p : ℕ} → s < 2 ^ 24 → q < 2 ^ 48 → r ≡ q / 4 + (cond (eqb (q % 2) 1) (half s) (2 ^ 46) / 2 + cond (eqb (q / 2 % 2) 1) (half s) (2 ^ 46))
+    → withoutOffset q ≡ p → withoutOffset r ≡ wmStep (signed 24 25 s) (wmStep (signed 24 25 s) p)
+pair-offset s q hs hq e f =
+    let l = below (half s) q (omega arith) hq in
+    ap withoutOffset (e ∙ sym (two-steps (half s) (half s) q (omega arith))) ∙ step-offset s (stepped (half s) q) hs l
+    ∙ ap (wmStep (signed 24 25 s)) (step-offset s q hs hq ∙ ap (wmStep (signed 24 25 s)) f)
+
+-- the last two
+pub end-offset : (s q : ℕ) {r p : ℕ} → s < 2 ^ 24 → q < 2 ^ 48
+    → r ≡ q / 4 + (cond (eqb (q % 2) 1) (half s) (2 ^ 46) / 2 + cond (eqb (q / 2 % 2) 1) (2 ^ 47 - half s) (2 ^ 46))
+    → withoutOffset q ≡ p → withoutOffset r ≡ wmLast (signed 24 25 s) (wmStep (signed 24 25 s) p)
+end-offset s q hs hq e f =
+    let l = below (half s) q (omega arith) hq in
+    ap withoutOffset (e ∙ sym (two-steps (half s) (2 ^ 47 - half s) q (omega arith))) ∙ last-offset s (stepped (half s) q) hs l
+    ∙ ap (wmLast (signed 24 25 s)) (step-offset s q hs hq ∙ ap (wmStep (signed 24 25 s)) f)

@@ -1,19 +1,19 @@
 use native.Mathlib.Omega.{arith}
 use mathlib.Core.Path.{_≡_, ap, _∙_}
-use Prim.Native.Nat.{_≤_, _<_, _+_, _-_, _%_, _^_}
-use Rattle.registers.proofs.Loops.{iter-none, iter-next}
+use Prim.Native.Nat.{suc, _≤_, _<_, _+_, _-_, _*_, _%_, _^_}
+use Rattle.registers.proofs.Loops.{iter-none}
 use Rattle.registers.specs.Reg.{signed, iter}
-use Rattle.multiply.specs.Wm.{wmStep, wm}
-use Rattle.multiply.proofs.Offset.{withoutOffset, step-offset, last-offset}
+use Rattle.multiply.specs.Wm.{wmStep, wmLast, wm}
+use Rattle.multiply.proofs.Offset.{withoutOffset, pair-offset, end-offset}
 use borrow.Author.Needs.{needs}
 use Rattle.multiply.proofs.multiply.Statement.{statement}
 use Rattle.multiply.proofs.multiply.Tie as tie
 
 abbrev Inv-loop : tie.InvT-loop
-Inv-loop w s y q₀ i₀ q i = (i ≤ 23) × (q < 2 ^ 48) × (withoutOffset q ≡ iter (wmStep (signed 24 25 s)) i w)
+Inv-loop w s y q₀ i₀ q i = (i ≤ 11) × (q < 2 ^ 48) × (withoutOffset q ≡ iter (wmStep (signed 24 25 s)) (2 * i) w)
 
 abbrev μ-loop : tie.MeasureT-loop
-μ-loop w s y q₀ i₀ q i = 23 - i
+μ-loop w s y q₀ i₀ q i = 11 - i
 
 add-y : tie.Need-add-y Inv-loop μ-loop
 add-y c = search needs
@@ -30,8 +30,8 @@ add-q c = search needs
 loop-holds : tie.Need-loop-holds Inv-loop μ-loop
 loop-holds c = let e : withoutOffset (c .args .w + 2 ^ 47) ≡ c .args .w = omega arith in (search needs, search needs, e ∙ iter-none _ _)
 
-step-requires : tie.Need-step-requires Inv-loop μ-loop
-step-requires c κs = search needs
+two-steps-requires : tie.Need-two-steps-requires Inv-loop μ-loop
+two-steps-requires c κs = search needs
 
 add-i : tie.Need-add-i Inv-loop μ-loop
 add-i c = search needs
@@ -40,26 +40,29 @@ loop-less : tie.Need-loop-less Inv-loop μ-loop
 loop-less c = search needs
 
 loop-again : tie.Need-loop-again Inv-loop μ-loop
+unfolding iter
 loop-again c =
-    let l = step-offset (c .before .before .before .args .s) (c .before .before .loop .q) (omega arith) (omega arith) in
-    (search needs, search needs, iter-next _ _ _ (c .before .before .loop .inv .2) (ap withoutOffset (c .step .ensures .0) ∙ l))
+    let was = c .before .before .loop in
+    let e : 2 * (was .i + 1) ≡ suc (suc (2 * was .i)) = omega arith in
+    (search needs, search needs, rw e (pair-offset (c .before .before .before .args .s) (was .q) (omega arith) (omega arith) (c .two-steps .ensures .0) (was .inv .2)))
 
-sub-step : tie.Need-sub-step Inv-loop μ-loop
-sub-step c = search needs
+sub-two-steps : tie.Need-sub-two-steps Inv-loop μ-loop
+sub-two-steps c = search needs
 
-step-requires-2 : tie.Need-step-requires-2 Inv-loop μ-loop
-step-requires-2 c κs = search needs
+two-steps-requires-2 : tie.Need-two-steps-requires-2 Inv-loop μ-loop
+two-steps-requires-2 c κs = search needs
 
 add-result : tie.Need-add-result Inv-loop μ-loop
 add-result c = search needs
 
 returns : tie.Need-returns Inv-loop μ-loop
-unfolding wm
+unfolding wm iter
 returns c =
-    let e : c .before .before .loop .i ≡ 23 = omega arith in
-    let a : (c .step2 .result + 2 ^ 47) % 2 ^ 48 ≡ withoutOffset (c .step2 .result) % 2 ^ 48 = omega arith in
-    let l = last-offset (c .before .before .before .args .s) (c .before .before .loop .q) (omega arith) (omega arith) in
-    (cc, search needs)
+    let was = c .before .before .loop in
+    let e : was .i ≡ 11 = omega arith in
+    let a : (c .two-steps2 .result + 2 ^ 47) % 2 ^ 48 ≡ withoutOffset (c .two-steps2 .result) % 2 ^ 48 = omega arith in
+    let l = end-offset (c .before .before .before .args .s) (was .q) (omega arith) (omega arith) (c .two-steps2 .ensures .0) (was .inv .2) in
+    (a ∙ ap (λ n. n % 2 ^ 48) l ∙ ap (λ n. wmLast (signed 24 25 (c .before .before .before .args .s)) (wmStep (signed 24 25 (c .before .before .before .args .s)) (iter (wmStep (signed 24 25 (c .before .before .before .args .s))) (2 * n) (c .before .before .before .args .w))) % 2 ^ 48) e, search needs)
 
 pub multiply-spec : {M : Type 1} → statement M
 multiply-spec =
@@ -72,11 +75,11 @@ multiply-spec =
     mul-y
     add-q
     loop-holds
-    step-requires
+    two-steps-requires
     add-i
     loop-less
     loop-again
-    sub-step
-    step-requires-2
+    sub-two-steps
+    two-steps-requires-2
     add-result
     returns)
