@@ -1,4 +1,4 @@
--- Who is refused, for what: the refusals 1 to 5 of document 01, in their order, each over everything before the next.
+-- Who is refused, for what: the refusals 1 to 5 of document 01 and 13 of document 02, in their order, each over everything before the next.
 -- Assumes nothing.
 use Prim.Native.Nat.{ℕ}
 use mathlib.Core.Bool.{Bool, true, false, not, cond}
@@ -6,7 +6,7 @@ use mathlib.Core.List.{List, [], _∷_}
 use lib.Dec.{ltb, leb}
 use lib.ListN.{length}
 use Rattle.machine.specs.declared.Control.{Control}
-use Rattle.machine.specs.declared.Refusal.the-variants.{StoreSize, CellValue, ControlField, Lines, Budget}
+use Rattle.machine.specs.declared.Refusal.the-variants.{StoreSize, CellValue, ControlField, Lines, Budget, Device}
 use Rattle.machine.specs.declared.Verdict.{Verdict}
 use Rattle.machine.specs.declared.Verdict.the-variants.{Accepted, Rejected}
 
@@ -51,6 +51,27 @@ abbrev pub judgeCall : Verdict → ℕ → ℕ → Verdict
 judgeCall Accepted l b = cond (ltb l 2097152) (cond (ltb b 65536) Accepted (Rejected Budget)) (Rejected Lines)
 judgeCall (Rejected r) l b = Rejected r
 
--- a run: 1, 2, 3, 4, 5
-unfoldable pub judgeRun : List ℕ → Control → ℕ → ℕ → Verdict
-judgeRun s c l b = judgeCall (judgeMachine s c) l b
+-- 13: a reader character over 63 or a device buffer register over 24 bits (document 02, E1)
+unfoldable pub characterFits : ℕ → Bool
+characterFits x = ltb x 64
+
+unfoldable pub charactersFit : List ℕ → Bool
+unfolding characterFits
+charactersFit [] = true
+charactersFit (x ∷ s) = let rest = charactersFit s in cond (characterFits x) rest false
+
+-- the registers of the reader and of the typewriter, and all characters lent
+unfoldable pub devicesFit : ℕ → ℕ → List ℕ → Bool
+devicesFit r t cs = cond (ltb r 16777216) (cond (ltb t 16777216) (charactersFit cs) false) false
+
+abbrev pub judgeDevices : Verdict → Bool → Verdict
+judgeDevices Accepted f = cond f Accepted (Rejected Device)
+judgeDevices (Rejected q) f = Rejected q
+
+-- a run: 1, 2, 3, 4, 5, 13
+unfoldable pub judgeRun : List ℕ → Control → ℕ → ℕ → ℕ → ℕ → List ℕ → Verdict
+judgeRun s c l b r t cs = judgeDevices (judgeCall (judgeMachine s c) l b) (devicesFit r t cs)
+
+-- the autoload key: 1, 2, 3, 13
+unfoldable pub judgeAutoload : List ℕ → Control → ℕ → ℕ → List ℕ → Verdict
+judgeAutoload s c r t cs = judgeDevices (judgeMachine s c) (devicesFit r t cs)

@@ -1,7 +1,8 @@
-// The tests that stores, control records and runs are judged by, in the order of document 01.
+// The tests that stores, control records and runs are judged by, in the order of documents 01 and 02.
 ghost use mathlib.Core.Path.{_≡_};
-ghost use Rattle.acceptance.specs.Accept.{sizeFits, cellsFit, stateFits, controlFits, judgeStore, judgeMachine, judgeRun};
+ghost use Rattle.acceptance.specs.Accept.{sizeFits, cellsFit, stateFits, controlFits, judgeStore, judgeMachine, judgeCall, judgeDevices, charactersFit, devicesFit, judgeRun, judgeAutoload};
 use machine::Control;
+use machine::Devices;
 use machine::Refusal;
 use machine::Verdict;
 
@@ -91,8 +92,9 @@ pub fn judge_machine(s: &[u32], c: Control) -> Verdict
     Verdict::Rejected(Refusal::StoreSize)
 }
 
-pub fn judge_run(s: &[u32], c: Control, lines: u32, budget: u32) -> Verdict
-    ensures { λ r. ⌜ r ≡ judgeRun (now (s .entry)) c lines budget ⌝ }
+// Tests 1 to 5 of a run.
+fn judge_call(s: &[u32], c: Control, lines: u32, budget: u32) -> Verdict
+    ensures { λ r. ⌜ r ≡ judgeCall (judgeMachine (now (s .entry)) c) lines budget ⌝ }
 {
     let v = judge_machine(s, c);
     match v {
@@ -107,4 +109,65 @@ pub fn judge_run(s: &[u32], c: Control, lines: u32, budget: u32) -> Verdict
         }
         Verdict::Rejected(r) => Verdict::Rejected(r),
     }
+}
+
+// All characters are looked at, as in `cells_fit`.
+fn characters_fit(s: &[u8]) -> bool
+    ensures { λ r. ⌜ r ≡ charactersFit (now (s .entry)) ⌝ }
+{
+    let mut fit = true;
+    for i in 0..s.len() {
+        if s[i] >= 64 {
+            fit = false;
+        }
+    }
+    fit
+}
+
+pub fn devices_fit(d: Devices, characters: &[u8]) -> bool
+    ensures { λ r. ⌜ r ≡ devicesFit (d .reader) (d .typewriter) (now (characters .entry)) ⌝ }
+{
+    if d.reader < 16777216 {
+        if d.typewriter < 16777216 {
+            return characters_fit(characters);
+        }
+        return false;
+    }
+    false
+}
+
+// Test 13, after those that v tells of.
+fn judge_devices(v: Verdict, d: Devices, characters: &[u8]) -> Verdict
+    ensures { λ r. ⌜ r ≡ judgeDevices v (devicesFit (d .reader) (d .typewriter) (now (characters .entry))) ⌝ }
+{
+    match v {
+        Verdict::Accepted => {
+            if devices_fit(d, characters) {
+                return Verdict::Accepted;
+            }
+            Verdict::Rejected(Refusal::Device)
+        }
+        Verdict::Rejected(r) => Verdict::Rejected(r),
+    }
+}
+
+pub fn judge_run(
+    s: &[u32],
+    c: Control,
+    lines: u32,
+    budget: u32,
+    d: Devices,
+    characters: &[u8],
+) -> Verdict
+    ensures { λ r. ⌜ r ≡ judgeRun (now (s .entry)) c lines budget (d .reader) (d .typewriter) (now (characters .entry)) ⌝ }
+{
+    let v = judge_call(s, c, lines, budget);
+    judge_devices(v, d, characters)
+}
+
+pub fn judge_autoload(s: &[u32], c: Control, d: Devices, characters: &[u8]) -> Verdict
+    ensures { λ r. ⌜ r ≡ judgeAutoload (now (s .entry)) c (d .reader) (d .typewriter) (now (characters .entry)) ⌝ }
+{
+    let v = judge_machine(s, c);
+    judge_devices(v, d, characters)
 }

@@ -10,19 +10,19 @@ use Rattle.machine.specs.declared.Control.{Control}
 use Rattle.machine.specs.Store.{key, putWord, forbids, forbidden, violation}
 use Rattle.machine.specs.Fields.{inTask, withIC, withIR, withPending, withEX}
 use Rattle.machine.proofs.StoreLaws.{length-putWord, word-other, key-putWord}
-use Rattle.definition.specs.Machine.{Machine, machine}
-use Rattle.definition.specs.MicroOps.{Operation, unprivileged, privileged, autoload, unassigned, perform}
+use Rattle.definition.specs.Machine.{Computer, computer, reached}
+use Rattle.definition.specs.MicroOps.{Operation, unprivileged, privileged, unassigned, perform}
 use Rattle.definition.specs.Protected.{forbiddenIn, InTaskMode, EqualProtected}
-use Rattle.definition.proofs.MicroLaws.{reached, Closed, reach-cond, reach-steps}
+use Rattle.definition.proofs.MicroLaws.{Closed, reach-cond, reach-steps}
 
-pub equal-refl : (k : ℕ) (m : Machine) → EqualProtected k m m
+pub equal-refl : (k : ℕ) (m : Computer) → EqualProtected k m m
 equal-refl k m = record { size = refl; keys = λ i. refl; pr = refl; im = refl; words = λ i h f. refl }
 
-pub forbidden-equal : {k : ℕ} {m n : Machine} → EqualProtected k m n → (i : ℕ) → forbiddenIn n i ≡ forbiddenIn m i
+pub forbidden-equal : {k : ℕ} {m n : Computer} → EqualProtected k m n → (i : ℕ) → forbiddenIn n i ≡ forbiddenIn m i
 unfolding forbidden
 forbidden-equal h i = rw (h .pr, h .keys i)
 
-pub equal-trans : {k : ℕ} {a b c : Machine} → EqualProtected k a b → EqualProtected k b c → EqualProtected k a c
+pub equal-trans : {k : ℕ} {a b c : Computer} → EqualProtected k a b → EqualProtected k b c → EqualProtected k a c
 equal-trans g h =
     record {
       size = h .size ∙ g .size;
@@ -32,7 +32,7 @@ equal-trans g h =
       words = λ i l f. h .words i l (forbidden-equal g i ∙ f) ∙ g .words i l f;
     }
 
-pub equal-sym : {k : ℕ} {m n : Machine} → EqualProtected k m n → EqualProtected k n m
+pub equal-sym : {k : ℕ} {m n : Computer} → EqualProtected k m n → EqualProtected k n m
 equal-sym h =
     record {
       size = sym (h .size);
@@ -42,12 +42,12 @@ equal-sym h =
       words = λ i l f. sym (h .words i l (sym (forbidden-equal h i) ∙ f));
     }
 
-pub equal-fewer : {k : ℕ} (j : ℕ) {m n : Machine} → k ≤ j → EqualProtected k m n → EqualProtected j m n
+pub equal-fewer : {k : ℕ} (j : ℕ) {m n : Computer} → k ≤ j → EqualProtected k m n → EqualProtected j m n
 equal-fewer j l h = record { size = h .size; keys = h .keys; pr = h .pr; im = h .im; words = λ i b f. h .words i (omega arith) f }
 
 -- a word is stored where nothing is protected
-pub equal-put : (k : ℕ) (m : Machine) (i v : ℕ) → ((j : ℕ) → k ≤ 2 * j → forbiddenIn m j ≡ true → j ≢ i)
-    → EqualProtected k m (machine (putWord (m .cells) i v) (m .control))
+pub equal-put : (k : ℕ) (m : Computer) (i v : ℕ) → ((j : ℕ) → k ≤ 2 * j → forbiddenIn m j ≡ true → j ≢ i)
+    → EqualProtected k m (computer (putWord (m .cells) i v) (m .control))
 equal-put k m i v h =
     record {
       size = length-putWord (m .cells) i v;
@@ -58,21 +58,21 @@ equal-put k m i v h =
     }
 
 -- the control record changes, its PR and IM do not
-pub equal-control : (k : ℕ) (m : Machine) (c : Control) → c .pr ≡ m .control .pr → c .im ≡ m .control .im → EqualProtected k m (machine (m .cells) c)
+pub equal-control : (k : ℕ) (m : Computer) (c : Control) → c .pr ≡ m .control .pr → c .im ≡ m .control .im → EqualProtected k m (computer (m .cells) c)
 equal-control k m c p q = record { size = refl; keys = λ i. refl; pr = p; im = q; words = λ i h f. refl }
 
 -- ---- still in task mode, with the protected part of `m`
 
-pub record Isolated (m n : Machine) : Type 0 where
+pub record Isolated (m n : Computer) : Type 0 where
   pub task : InTaskMode n
   pub equal : EqualProtected 8 m n
 
-isolated-put : {m n : Machine} (i v : ℕ) → ((j : ℕ) → 8 ≤ 2 * j → forbiddenIn n j ≡ true → j ≢ i) → Isolated m n
-    → Isolated m (machine (putWord (n .cells) i v) (n .control))
+isolated-put : {m n : Computer} (i v : ℕ) → ((j : ℕ) → 8 ≤ 2 * j → forbiddenIn n j ≡ true → j ≢ i) → Isolated m n
+    → Isolated m (computer (putWord (n .cells) i v) (n .control))
 isolated-put {n} i v f h = record { task = h .task; equal = equal-trans (h .equal) (equal-put 8 n i v f) }
 
-pub isolated-control : {m n : Machine} (c : Control) → c .pr ≡ n .control .pr → c .im ≡ n .control .im → c .monitor ≡ n .control .monitor → Isolated m n
-    → Isolated m (machine (n .cells) c)
+pub isolated-control : {m n : Computer} (c : Control) → c .pr ≡ n .control .pr → c .im ≡ n .control .im → c .monitor ≡ n .control .monitor → Isolated m n
+    → Isolated m (computer (n .cells) c)
 isolated-control {n} c p q t h = record { task = t ∙ h .task; equal = equal-trans (h .equal) (equal-control 8 n c p q) }
 
 -- in task mode what is no violation is not forbidden
@@ -80,11 +80,11 @@ allowed : (a b : Bool) → a ≡ false → cond a false b ≡ false → b ≡ fa
 allowed true b e h = absurd (true≢false e)
 allowed false b e h = h
 
-pub allowed-cell : (n : Machine) (i : ℕ) → InTaskMode n → violation (n .cells) (n .control) i ≡ false → forbiddenIn n i ≡ false
+pub allowed-cell : (n : Computer) (i : ℕ) → InTaskMode n → violation (n .cells) (n .control) i ≡ false → forbiddenIn n i ≡ false
 unfolding violation forbidden
 allowed-cell n i t b = allowed (n .control .monitor) (forbids (n .control .pr) (key (n .cells) i)) t b
 
-isolated-closed : (m : Machine) → Closed (Isolated m)
+isolated-closed : (m : Computer) → Closed (Isolated m)
 unfolding withIC withIR withPending withEX
 isolated-closed m =
     record {
@@ -101,11 +101,9 @@ not-both true e h = true≢false e
 not-both false e h = true≢false h
 
 -- whatever an instruction means, in task mode it keeps the protected part
-pub isolated-perform : (m : Machine) (w : ℕ) (o : Operation) (n : Machine) → w < 4 → Isolated m n → Isolated m (reached (perform w o n))
+pub isolated-perform : (m : Computer) (w : ℕ) (o : Operation) (n : Computer) → w < 4 → Isolated m n → Isolated m (reached (perform w o n))
 unfolding perform inTask
 isolated-perform m w (unprivileged ds) n l h = reach-steps (Isolated m) (isolated-closed m) w ds n l h
 isolated-perform m w (privileged ds) n l h =
-    reach-cond (Isolated m) (inTask (n .control)) _ _ (λ t. h) (λ t. absurd (not-both (n .control .monitor) (h .task) t))
-isolated-perform m w autoload n l h =
     reach-cond (Isolated m) (inTask (n .control)) _ _ (λ t. h) (λ t. absurd (not-both (n .control .monitor) (h .task) t))
 isolated-perform m w unassigned n l h = h

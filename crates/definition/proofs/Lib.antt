@@ -1,3 +1,4 @@
 pub mod MicroLaws
 pub mod Isolation
 pub mod Validity
+pub mod DeviceLaws

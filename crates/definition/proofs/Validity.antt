@@ -17,9 +17,9 @@ use Rattle.machine.specs.Fields.{inTask, withIC, withIR, withIM, withPending, w
 use Rattle.machine.specs.Records.{resetRecord}
 use Rattle.machine.proofs.StoreLaws.{length-putWord, length-putKey, Cells, cells-putWord, cells-putKey}
 use Rattle.acceptance.specs.Accept.{sizeFits, cellsFit, stateFits, controlFits, judgeMachine}
-use Rattle.definition.specs.Machine.{Machine, machine, resetSystem}
-use Rattle.definition.specs.MicroOps.{MonitorOp, plain, setKey, setPR, setIM, setIR, setEnabled, Operation, unprivileged, privileged, autoload, unassigned, monitorStep, monitorSteps, perform}
-use Rattle.definition.proofs.MicroLaws.{reached, Closed, reach-cond, reach-bind, reach-step, reach-steps}
+use Rattle.definition.specs.Machine.{Computer, computer, reached, resetSystem}
+use Rattle.definition.specs.MicroOps.{MonitorOp, plain, setKey, setPR, setIM, setIR, setEnabled, setWord, Operation, unprivileged, privileged, unassigned, monitorStep, monitorSteps, perform}
+use Rattle.definition.proofs.MicroLaws.{Closed, reach-cond, reach-bind, reach-step, reach-steps}
 
 pub record Widths (c : Control) : Type 0 where
   pub ic : c .ic < 16777216
@@ -30,7 +30,7 @@ pub record Widths (c : Control) : Type 0 where
   pub high : c .pr < 256
   pub ex : c .ex < 8
 
-pub record Valid (m : Machine) : Type 0 where
+pub record Valid (m : Computer) : Type 0 where
   pub least : 8 ≤ length (m .cells)
   pub most : length (m .cells) ≤ 8388608
   pub cells : Cells (m .cells)
@@ -84,7 +84,7 @@ control-widths c e =
       p7 .1,
     )
 
-pub accepted-valid : (m : Machine) → judgeMachine (m .cells) (m .control) ≡ Accepted → Valid m
+pub accepted-valid : (m : Computer) → judgeMachine (m .cells) (m .control) ≡ Accepted → Valid m
 unfolding judgeMachine sizeFits
 accepted-valid m e =
     let p1 = passed (sizeFits (length (m .cells))) _ _ e in
@@ -100,7 +100,7 @@ accepted-valid m e =
       state = c .1;
     }
 
-pub valid-accepted : (m : Machine) → Valid m → judgeMachine (m .cells) (m .control) ≡ Accepted
+pub valid-accepted : (m : Computer) → Valid m → judgeMachine (m .cells) (m .control) ≡ Accepted
 unfolding judgeMachine sizeFits controlFits
 valid-accepted m h =
     rw (
@@ -119,7 +119,7 @@ valid-accepted m h =
 
 -- ---- outside the reset state
 
-pub record Live (m : Machine) : Type 0 where
+pub record Live (m : Computer) : Type 0 where
   pub valid : Valid m
   pub running : m .control .reset ≡ false
 
@@ -127,7 +127,7 @@ pub state-running : (c : Control) → c .reset ≡ false → stateFits c ≡ tru
 unfolding stateFits
 state-running c q = ap (λ (r : Bool). cond r (cond (c .monitor) (not (c .enabled)) false) true) q
 
-pub valid-put : (i v : ℕ) (n : Machine) → Valid n → Valid (machine (putWord (n .cells) i v) (n .control))
+pub valid-put : (i v : ℕ) (n : Computer) → Valid n → Valid (computer (putWord (n .cells) i v) (n .control))
 valid-put i v n h =
     record {
       least = rw length-putWord (h .least);
@@ -137,10 +137,10 @@ valid-put i v n h =
       state = h .state;
     }
 
-live-put : (i v : ℕ) (n : Machine) → Live n → Live (machine (putWord (n .cells) i v) (n .control))
+pub live-put : (i v : ℕ) (n : Computer) → Live n → Live (computer (putWord (n .cells) i v) (n .control))
 live-put i v n h = record { valid = valid-put i v n (h .valid); running = h .running }
 
-live-key : (i k : ℕ) (n : Machine) → Live n → Live (machine (putKey (n .cells) i k) (n .control))
+live-key : (i k : ℕ) (n : Computer) → Live n → Live (computer (putKey (n .cells) i k) (n .control))
 live-key i k n h =
     record {
       valid =
@@ -154,10 +154,10 @@ live-key i k n h =
       running = h .running;
     }
 
-pub valid-control : (n : Machine) (c : Control) → Widths c → stateFits c ≡ true → Valid n → Valid (machine (n .cells) c)
+pub valid-control : (n : Computer) (c : Control) → Widths c → stateFits c ≡ true → Valid n → Valid (computer (n .cells) c)
 valid-control n c w r h = record { least = h .least; most = h .most; cells = h .cells; widths = w; state = r }
 
-pub live-control : (n : Machine) (c : Control) → Widths c → c .reset ≡ n .control .reset → Live n → Live (machine (n .cells) c)
+pub live-control : (n : Computer) (c : Control) → Widths c → c .reset ≡ n .control .reset → Live n → Live (computer (n .cells) c)
 live-control n c w q h =
     record { valid = valid-control n c w (state-running c (q ∙ h .running)) (h .valid); running = q ∙ h .running }
 
@@ -173,7 +173,7 @@ live-closed =
       pending = λ v n h. live-control n _ (omega (arith, h .valid .widths)) refl h;
     }
 
-live-step : (w : ℕ) (d : MonitorOp) (n : Machine) → w < 4 → Live n → Live (reached (monitorStep w d n))
+pub live-step : (w : ℕ) (d : MonitorOp) (n : Computer) → w < 4 → Live n → Live (reached (monitorStep w d n))
 unfolding monitorStep withIM withIR withPR withEnabled
 live-step w (plain d) n l h = reach-step Live live-closed w d n l h
 live-step w (setKey a v) n l h = live-key (a / 2) (v n) n h
@@ -181,19 +181,19 @@ live-step w (setPR v) n l h = live-control n _ (omega (arith, h .valid .widths))
 live-step w (setIM v) n l h = live-control n _ (omega (arith, h .valid .widths)) refl h
 live-step w (setIR v) n l h = live-control n _ (omega (arith, h .valid .widths)) refl h
 live-step w (setEnabled e) n l h = live-control n _ (omega (arith, h .valid .widths)) refl h
+live-step w (setWord a v) n l h = live-put (a / 2) (v n) n h
 
-live-steps : (w : ℕ) (ds : List MonitorOp) (n : Machine) → w < 4 → Live n → Live (reached (monitorSteps w ds n))
+live-steps : (w : ℕ) (ds : List MonitorOp) (n : Computer) → w < 4 → Live n → Live (reached (monitorSteps w ds n))
 unfolding monitorSteps
 live-steps w [] n l h = h
 live-steps w (d ∷ ds) n l h = reach-bind Live (monitorStep w d n) (monitorSteps w ds) (live-step w d n l h) (λ k p. live-steps w ds k l p)
 
-pub valid-reset : (n : Machine) → Valid n → Valid (resetSystem (n .cells) (n .control))
+pub valid-reset : (n : Computer) → Valid n → Valid (resetSystem (n .cells) (n .control))
 unfolding resetSystem resetRecord stateFits
-valid-reset n h = valid-control (machine (putWord (n .cells) 5 (n .control .ic)) (n .control)) _ (omega (arith, h .widths)) refl (valid-put 5 (n .control .ic) n h)
+valid-reset n h = valid-control (computer (putWord (n .cells) 5 (n .control .ic)) (n .control)) _ (omega (arith, h .widths)) refl (valid-put 5 (n .control .ic) n h)
 
-pub valid-perform : (w : ℕ) (o : Operation) (n : Machine) → w < 4 → Live n → Valid (reached (perform w o n))
+pub valid-perform : (w : ℕ) (o : Operation) (n : Computer) → w < 4 → Live n → Valid (reached (perform w o n))
 unfolding perform
 valid-perform w (unprivileged ds) n l h = reach-steps Live live-closed w ds n l h .valid
 valid-perform w (privileged ds) n l h = reach-cond Valid (inTask (n .control)) _ _ (λ e. h .valid) (λ e. live-steps w ds n l h .valid)
-valid-perform w autoload n l h = reach-cond Valid (inTask (n .control)) _ _ (λ e. h .valid) (λ e. valid-reset n (h .valid))
 valid-perform w unassigned n l h = h .valid

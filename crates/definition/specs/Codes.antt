@@ -5,21 +5,28 @@ use mathlib.Core.Bool.{cond}
 use mathlib.Core.List.{List, [], _∷_}
 use lib.Dec.{eqb}
 use Rattle.machine.specs.declared.Control.{Control}
-use Rattle.definition.specs.Machine.{machine, Effect}
-use Rattle.definition.specs.MicroOps.{perform}
-use Rattle.definition.specs.Meaning.{Op, AM, AL, AC, HL, HS, RL, RS, RX, DL, DS, BZ, BL, BA, BS, WA, WS, WM, WD, AA, SS, CI, CF, FA, FS, FM, FD, LA, LO, LX, AS, AD, LS, LD, NS, ND, JL, SH, SL, SE, SN, SO, SZ, SX, SP, JE, JD, IC, IS, ML, MS, XL, XS, PL, PS, KL, KS, IO, AW, None, meaning}
+use Rattle.definition.specs.Machine.{Computer, computer, Machine, Effect, lifted}
+use Rattle.definition.specs.MicroOps.{perform, performDevice}
+use Rattle.definition.specs.Meaning.{Op, AM, AL, AC, HL, HS, RL, RS, RX, DL, DS, BZ, BL, BA, BS, WA, WS, WM, WD, AA, SS, CI, CF, FA, FS, FM, FD, LA, LO, LX, AS, AD, LS, LD, NS, ND, JL, SH, SL, SE, SN, SO, SZ, SX, SP, JE, JD, IC, IS, ML, MS, XL, XS, PL, PS, KL, KS, None, meaning, Peripheral, IO, AW, deviceMeaning}
+
+pub data Mnemonic : Type 0 where
+  internal : Op → Mnemonic
+  device : Peripheral → Mnemonic
 
 -- Appendix A.2: the numeric code of an operation
 pub record Code : Type 0 where
   pub number : ℕ
-  pub op : Op
+  pub op : Mnemonic
 
 abbrev code : ℕ → Op → Code
-code n o = record { number = n; op = o }
+code n o = record { number = n; op = internal o }
+
+abbrev deviceCode : ℕ → Peripheral → Code
+deviceCode n o = record { number = n; op = device o }
 
 unfoldable pub codes : List Code
 codes =
-    code 0 AW ∷ code 1 IO ∷ code 2 BL ∷ code 3 HL ∷ code 4 LA ∷ code 5 LO ∷ code 6 LX ∷ code 7 WA
+    deviceCode 0 AW ∷ deviceCode 1 IO ∷ code 2 BL ∷ code 3 HL ∷ code 4 LA ∷ code 5 LO ∷ code 6 LX ∷ code 7 WA
     ∷ code 8 WS ∷ code 9 AM ∷ code 10 WM ∷ code 11 AL ∷ code 12 ML ∷ code 13 JL ∷ code 14 JD ∷ code 15 JE
     ∷ code 16 XL ∷ code 17 BS ∷ code 18 BA ∷ code 19 BZ ∷ code 20 RL ∷ code 21 SP ∷ code 22 KL ∷ code 23 RS
     ∷ code 24 WD ∷ code 25 RX ∷ code 26 HS ∷ code 27 XS ∷ code 28 PL ∷ code 29 PS ∷ code 30 MS ∷ code 31 IS
@@ -29,14 +36,23 @@ codes =
     ∷ code 56 AA ∷ code 57 SS ∷ []
 
 -- the codes 58 to 63 are not used
-unfoldable pub lookup : ℕ → List Code → Op
-lookup f [] = None
+unfoldable pub lookup : ℕ → List Code → Mnemonic
+lookup f [] = internal None
 lookup f (x ∷ xs) = cond (eqb f (x .number)) (x .op) (lookup f xs)
 
 -- what operation o does with the register w and the effective address sb
-unfoldable pub executing : Op → ℕ → ℕ → List ℕ → Control → Effect
-executing o w sb s c = perform w (meaning o sb w (machine s c)) (machine s c)
+unfoldable pub executing : Op → ℕ → ℕ → List ℕ → Control → Effect Computer
+executing o w sb s c = perform w (meaning o sb w (computer s c)) (computer s c)
+
+-- what IO or AW does
+unfoldable pub executingDevice : Peripheral → ℕ → ℕ → Machine → Effect Machine
+executingDevice p w sb m = performDevice w (deviceMeaning p sb m) m
+
+-- an operation without devices leaves the channel as it was
+abbrev pub operatingBy : Mnemonic → ℕ → ℕ → Machine → Effect Machine
+operatingBy (internal o) w sb m = lifted (m .channel) (executing o w sb (m .cells) (m .control))
+operatingBy (device p) w sb m = executingDevice p w sb m
 
 -- goto operation(FR(0:5))
-unfoldable pub operating : ℕ → ℕ → ℕ → List ℕ → Control → Effect
-operating f w sb s c = executing (lookup f codes) w sb s c
+unfoldable pub operating : ℕ → ℕ → ℕ → Machine → Effect Machine
+operating f w sb m = operatingBy (lookup f codes) w sb m

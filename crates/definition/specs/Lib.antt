@@ -1,4 +1,5 @@
 pub mod Machine
+pub mod Channel
 pub mod MicroOps
 pub mod Operands
 pub mod Meaning

@@ -1,9 +1,10 @@
 -- 14.8: the instructions, in the manual's order, each as its micro-operations in the order of its statements. `sb` is the effective address SB,
--- `w` the number of W, `m` the machine as the operation begins; `n` is the machine as it is at a micro-operation.
+-- `w` the number of W, `m` the computer (in IO and AW the machine) as the operation begins; `n` is the computer as it is at a micro-operation.
 -- Assumes nothing.
 use Prim.Native.Nat.{ℕ, _+_, _*_, _/_, _%_}
-use mathlib.Core.Bool.{true, false, not}
-use mathlib.Core.List.{[], _∷_}
+use mathlib.Core.Bool.{Bool, true, false, not, cond, _||_}
+use mathlib.Core.List.{List, [], _∷_}
+use lib.Dec.{eqb}
 use Rattle.machine.specs.Store.{key, pair, forbidden, firstWord}
 use Rattle.integer.specs.Sums.{sum, difference, sumWithCarry, differenceWithCarry}
 use Rattle.integer.specs.Bitwise.{logicalAnd, logicalOr, logicalXor, cleared}
@@ -17,15 +18,16 @@ use Rattle.floating.specs.Add.{fa, fs}
 use Rattle.floating.specs.Multiply.{fm}
 use Rattle.floating.specs.Divide.{fd}
 use Rattle.floating.specs.Convert.{cf}
-use Rattle.definition.specs.Machine.{Machine}
-use Rattle.definition.specs.MicroOps.{testAddress, testJump, setW, setWpre, link, storeWord, storeByte, setIC, skipIf, clearFlags, overflow, setEX, modify, plain, setKey, setPR, setIM, setIR, setEnabled, Operation, unprivileged, privileged, autoload, unassigned}
-use Rattle.definition.specs.Operands.{regW, regPre, wordAt, firstAt, byteAt, extended, always, even, afterW, integerOverflow, floatingOverflow, disconnected, busy, testInteger, setPair}
+use Rattle.definition.specs.Machine.{Computer, Machine}
+use Rattle.definition.specs.Channel.{deviceOf, commandOf, senseCommand, controlCommand, readCommand, disconnected, busy, fourLeft, assembled}
+use Rattle.definition.specs.MicroOps.{testAddress, testJump, setW, setWpre, link, storeWord, storeByte, setIC, skipIf, clearFlags, overflow, setEX, modify, plain, setKey, setPR, setIM, setIR, setEnabled, setWord, DeviceOp, monitor, senseDevice, controlDevice, readDevice, writeDevice, Operation, unprivileged, privileged, unassigned, DeviceOperation, peripheral, resetting}
+use Rattle.definition.specs.Operands.{regW, regPre, wordAt, firstAt, byteAt, extended, always, even, afterW, integerOverflow, floatingOverflow, testInteger, setPair}
 
--- the mnemonic codes of A.2, and `None` for a code that is not used
+-- the mnemonic codes of A.2 but for IO and AW, which reach devices, and `None` for a code that is not used
 pub data Op : Type 0 where
-  AM AL AC HL HS RL RS RX DL DS BZ BL BA BS WA WS WM WD AA SS CI CF FA FS FM FD LA LO LX AS AD LS LD NS ND JL SH SL SE SN SO SZ SX SP JE JD IC IS ML MS XL XS PL PS KL KS IO AW None : Op
+  AM AL AC HL HS RL RS RX DL DS BZ BL BA BS WA WS WM WD AA SS CI CF FA FS FM FD LA LO LX AS AD LS LD NS ND JL SH SL SE SN SO SZ SX SP JE JD IC IS ML MS XL XS PL PS KL KS None : Op
 
-unfoldable pub meaning : Op → ℕ → ℕ → Machine → Operation
+unfoldable pub meaning : Op → ℕ → ℕ → Computer → Operation
 -- Modify Next Address: AR := signed SB, added to the displacement of the next instruction. The fetch that is printed here belongs to the next
 -- cycle (docs/DECISIONS.md B5)
 meaning AM sb w m = unprivileged (modify (always sb) ∷ [])
@@ -165,9 +167,38 @@ meaning PS sb w m = unprivileged (testAddress sb ∷ storeByte sb (λ n. n .cont
 meaning KL sb w m = unprivileged (testAddress sb ∷ setW (λ n. key (n .cells) (sb / 2)) ∷ [])
 -- Store Protection Key: Test Mode; Test Address; protection key(SB) := W(21:23)
 meaning KS sb w m = privileged (plain (testAddress sb) ∷ setKey sb (regW w) ∷ [])
--- Input/Output: Test Mode; EX(22) := if disconnected(device) then 1 else 0; EX(23) := if busy(device) then 1 else 0; ..
-meaning IO sb w m = privileged (plain (setEX (λ n. n .control .ex / 4 * 4 + (2 * disconnected + busy))) ∷ [])
--- Autoload Word: Test Mode; ..; if disconnected(0) then goto Reset System
-meaning AW sb w m = autoload
 -- an unassigned code: Instruction Exception
 meaning None sb w m = unassigned
+
+-- ---- the instructions that reach devices, behind Test Mode
+
+pub data Peripheral : Type 0 where
+  IO AW : Peripheral
+
+-- if SB(22:23) = 0 then W := device buffer(device); if SB(23) = 1 then device buffer(device) := W; and the device's own operation (chapter 8)
+unfoldable pub commanded : ℕ → ℕ → List DeviceOp
+commanded device command =
+    cond (eqb command senseCommand) (senseDevice device ∷ [])
+    (cond (eqb command controlCommand) (controlDevice device ∷ []) (cond (eqb command readCommand) (readDevice device ∷ []) (writeDevice device ∷ [])))
+
+-- EX(22:23): if disconnected(device) then 1 else 0, if busy(device) then 1 else 0
+unfoldable pub rejection : Bool → ℕ
+rejection rejected = 2 * cond rejected 1 0 + cond busy 1 0
+
+-- Start Input: a read command to device 0; EX(22:23) := 0
+abbrev pub input : List DeviceOp → List DeviceOp
+input ds = readDevice 0 ∷ monitor (plain clearFlags) ∷ ds
+
+-- for SC := 1 step 1 until 4 do ..; Test Address; word(SB) := AR(0:23); protection key(SB) := 0: the characters cs are left, four at least
+unfoldable pub autoloading : ℕ → List ℕ → List DeviceOp
+autoloading sb cs =
+    input (input (input (input (monitor (plain (testAddress sb)) ∷ monitor (setWord sb (always (assembled 4 0 cs))) ∷ monitor (setKey sb (always 0)) ∷ []))))
+
+unfoldable pub deviceMeaning : Peripheral → ℕ → Machine → DeviceOperation
+-- Input/Output: device := SB(0:17); EX(22) := if disconnected(device) then 1 else 0; EX(23) := if busy(device) then 1 else 0;
+-- if EX(22:23) <> 0 then goto Next Instruction; ..
+deviceMeaning IO sb m =
+    let rejected = disconnected (deviceOf sb) (commandOf sb) (m .channel) in
+    peripheral (monitor (plain (setEX (λ n. n .control .ex / 4 * 4 + rejection rejected))) ∷ cond (rejected || busy) [] (commanded (deviceOf sb) (commandOf sb)))
+-- Autoload Word: where fewer than four characters are left it takes none, and goto Reset System (document 02; the print takes those that are there)
+deviceMeaning AW sb m = cond (fourLeft (m .channel .characters)) (peripheral (autoloading sb (m .channel .characters))) resetting

@@ -5,7 +5,7 @@ use mathlib.Core.List.{List, [], _∷_}
 use Rattle.machine.specs.Store.{word, byte, putWord, firstWord, previous}
 use Rattle.registers.specs.Reg.{signed}
 use Rattle.integer.specs.declared.Sum.{Sum}
-use Rattle.definition.specs.Machine.{Machine, machine}
+use Rattle.definition.specs.Machine.{Computer, computer}
 use Rattle.definition.specs.MicroOps.{Value, MicroOp, setW, setWpre, overflow, setCarry}
 
 -- W
@@ -39,9 +39,9 @@ always v n = v
 abbrev pub even : ℕ → ℕ
 even a = a / 2 * 2
 
--- the machine after W := v
-abbrev pub afterW : ℕ → ℕ → Machine → Machine
-afterW w v m = machine (putWord (m .cells) w v) (m .control)
+-- the computer after W := v
+abbrev pub afterW : ℕ → ℕ → Computer → Computer
+afterW w v m = computer (putWord (m .cells) w v) (m .control)
 
 -- the weights of IR(1), integer overflow, and IR(2), floating-point overflow
 abbrev pub integerOverflow : ℕ
@@ -49,13 +49,6 @@ integerOverflow = 4194304
 
 abbrev pub floatingOverflow : ℕ
 floatingOverflow = 2097152
-
--- EX(22) := if disconnected(device) then 1 else 0; EX(23) := if busy(device) then 1 else 0: for now no device is connected
-abbrev pub disconnected : ℕ
-disconnected = 1
-
-abbrev pub busy : ℕ
-busy = 0
 
 -- 14.7, Test Integer: if AR(-1) <> AR(0) then IR(1) := EX(22) := 1; EX(23) := carry
 abbrev pub testInteger : Sum → List MicroOp

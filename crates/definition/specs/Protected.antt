@@ -6,18 +6,18 @@ use mathlib.Core.Path.{_≡_}
 use mathlib.Core.Bool.{Bool, true, false}
 use lib.ListN.{length}
 use Rattle.machine.specs.Store.{word, key, forbidden}
-use Rattle.definition.specs.Machine.{Machine}
+use Rattle.definition.specs.Machine.{Computer}
 
 -- cell i of m is forbidden
-abbrev pub forbiddenIn : Machine → ℕ → Bool
+abbrev pub forbiddenIn : Computer → ℕ → Bool
 forbiddenIn m i = forbidden (m .cells) (m .control) i
 
 -- task mode means that monitor mode is no
-abbrev pub InTaskMode : Machine → Type 0
+abbrev pub InTaskMode : Computer → Type 0
 InTaskMode m = m .control .monitor ≡ false
 
 -- stores of one size, and equal protected parts, its words from the address `first` up: 8, or 12 for all save words 8 and 10
-pub record EqualProtected (first : ℕ) (m n : Machine) : Type 0 where
+pub record EqualProtected (first : ℕ) (m n : Computer) : Type 0 where
   pub size : length (n .cells) ≡ length (m .cells)
   pub keys : (i : ℕ) → key (n .cells) i ≡ key (m .cells) i
   pub pr : n .control .pr ≡ m .control .pr

@@ -38,6 +38,26 @@ pub length-putKey : (s : List ℕ) (i k : ℕ) → length (putKey s i k) ≡ len
 unfolding putKey
 length-putKey s i k = simp length-set
 
+pub word-putKey : (s : List ℕ) (i k j : ℕ) → word (putKey s i k) j ≡ word s j
+unfolding putKey word
+word-putKey s i k j = at (ℕ-discrete j i)
+  where
+    inside : Dec (i < length s) → word (putKey s i k) i ≡ word s i
+    inside (yes h) = rw getD-set-same (omega arith)
+    inside (no h) = let o : length s ≤ i = omega arith in rw set-out
+
+    at : Dec (j ≡ i) → word (putKey s i k) j ≡ word s j
+    at (yes e) = rw e (inside (decLt i (length s)))
+    at (no h) = rw getD-set-other
+
+pub key-other : (s : List ℕ) (i k j : ℕ) → j ≢ i → key (putKey s i k) j ≡ key s j
+unfolding putKey key
+key-other s i k j h = rw getD-set-other
+
+pub key-same : (s : List ℕ) (i k : ℕ) → i < length s → key (putKey s i k) i ≡ k % 8
+unfolding putKey key
+key-same s i k h = rw getD-set-same (omega arith)
+
 -- ---- every cell stays below 2^27
 
 unfoldable pub Cells : List ℕ → Type 0

@@ -1,4 +1,4 @@
--- Document 01's number of each refusal, and the number that an entry stores.
+-- The papers' number of each refusal, and the number that an entry stores.
 -- Assumes nothing.
 use Prim.Native.Nat.{ℕ}
 use Rattle.machine.specs.declared.Kind.{Kind}
@@ -6,7 +6,7 @@ use Rattle.machine.specs.declared.Kind.the-variants.{Exception, Line}
 use Rattle.machine.specs.declared.Verdict.{Verdict}
 use Rattle.machine.specs.declared.Verdict.the-variants.{Accepted, Rejected}
 use Rattle.machine.specs.declared.Refusal.{Refusal}
-use Rattle.machine.specs.declared.Refusal.the-variants.{StoreSize, CellValue, ControlField, Lines, Budget, TapeEnds, RecordKind, RecordLength, BlockPlace, BlockCell, RecordOrder, TapeLength}
+use Rattle.machine.specs.declared.Refusal.the-variants.{StoreSize, CellValue, ControlField, Lines, Budget, TapeEnds, RecordKind, RecordLength, BlockPlace, BlockCell, RecordOrder, TapeLength, Device}
 
 -- document 01, "Who can be refused, for what"
 abbrev pub refusalNumber : Refusal → ℕ
@@ -34,6 +34,8 @@ refusalNumber BlockCell = 10
 refusalNumber RecordOrder = 11
 -- over 65,536 bytes
 refusalNumber TapeLength = 12
+-- a reader character over 63 or a device buffer register over 24 bits (document 02, E1)
+refusalNumber Device = 13
 
 -- 0: not refused
 abbrev pub verdictNumber : Verdict → ℕ

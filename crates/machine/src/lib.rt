@@ -80,6 +80,13 @@ impl Control {
     }
 }
 
+// The device buffer registers, beside the control record (chapter 8): 24 bits each.
+#[repr(C)]
+pub struct Devices {
+    pub reader: u32,
+    pub typewriter: u32,
+}
+
 // The fields of an instruction word.
 pub struct Instruction {
     pub code: u32,
@@ -137,7 +144,7 @@ pub enum Outcome {
     Spent,
 }
 
-// The numbered refusals 1 to 12 (document 01, "Who can be refused, for what"), in the order of their numbers.
+// The numbered refusals: 1 to 12 of document 01, "Who can be refused, for what", 13 of document 02, E1; in the order of their numbers.
 pub enum Refusal {
     StoreSize,
     CellValue,
@@ -151,6 +158,7 @@ pub enum Refusal {
     BlockCell,
     RecordOrder,
     TapeLength,
+    Device,
 }
 
 impl Refusal {
@@ -170,6 +178,7 @@ impl Refusal {
             Refusal::BlockCell => 10,
             Refusal::RecordOrder => 11,
             Refusal::TapeLength => 12,
+            Refusal::Device => 13,
         }
     }
 }
@@ -186,18 +195,29 @@ pub enum Answer {
     Ended(Outcome),
 }
 
-// What a run hands back.
+// What a run hands back: `taken` of the reader's characters, `typed` bytes at the front of the typing buffer.
 pub struct Run {
     pub control: Control,
     pub answer: Answer,
     pub executed: u32,
     pub entries: u32,
+    pub devices: Devices,
+    pub taken: usize,
+    pub typed: usize,
 }
 
-// What a panel key and the loader hand back.
+// What the reset key, the start key and the loader hand back.
 pub struct State {
     pub control: Control,
     pub verdict: Verdict,
+}
+
+// What the autoload key hands back.
+pub struct Autoloaded {
+    pub control: Control,
+    pub verdict: Verdict,
+    pub devices: Devices,
+    pub taken: usize,
 }
 
 pub fn cell_at(s: &[u32], i: u32) -> u32

@@ -4,19 +4,24 @@ use Prim.Native.Nat.{ℕ}
 use mathlib.Core.List.{List}
 use Rattle.machine.specs.declared.Control.{Control}
 use Rattle.machine.specs.Records.{resetRecord}
-use Rattle.definition.specs.Machine.{Machine, machine, Effect, ok, fault}
+use Rattle.definition.specs.Machine.{Computer, computer, Channel, Machine, connected, Effect, ok, fault}
 use Rattle.row.specs.declared.End.{End}
 use Rattle.row.specs.declared.End.the-variants.{Done, Reset, Faulted}
 
-pub data Ending : Type 0 where
-  completed : Machine → Ending
-  faulted : Machine → Ending
+pub data Ending (M : Type 0) : Type 0 where
+  completed : M → Ending M
+  faulted : M → Ending M
 
-abbrev pub ending : Effect → Ending
+abbrev pub ending : {M : Type 0} → Effect M → Ending M
 ending (ok m) = completed m
 ending (fault f m) = faulted m
 
-abbrev pub endingOf : End → List ℕ → Control → Ending
-endingOf Done s c = completed (machine s c)
-endingOf Reset s c = completed (machine s (resetRecord c))
-endingOf Faulted s c = faulted (machine s c)
+abbrev pub endingOf : End → List ℕ → Control → Ending Computer
+endingOf Done s c = completed (computer s c)
+endingOf Reset s c = completed (computer s (resetRecord c))
+endingOf Faulted s c = faulted (computer s c)
+
+-- with the channel h
+abbrev pub endingWith : Channel → Ending Computer → Ending Machine
+endingWith h (completed k) = completed (connected h k)
+endingWith h (faulted k) = faulted (connected h k)

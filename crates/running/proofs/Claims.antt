@@ -6,40 +6,48 @@ use native.Mathlib.Nat.{mod-eq-of-lt, div-eq-of-lt}
 use native.Mathlib.Decide.{decLt}
 use mathlib.Core.Path.{_≡_, refl, sym, ap, _∙_, subst}
 use mathlib.Core.Bool.{Bool, true, false, cond, true≢false}
-use mathlib.Core.List.{List}
+use mathlib.Core.List.{List, [], _∷_}
+use lib.Bits.{or-shifted}
 use lib.Dec.{eqb}
 use lib.ListN.{length}
-use borrow.Author.Tests.{eqb-true, lt-ltb}
+use borrow.Author.Tests.{eqb-true, lt-ltb, le-leb, lt-leb}
 use Rattle.machine.specs.declared.Control.{Control}
 use Rattle.machine.specs.declared.Refusal.the-variants.{StoreSize, CellValue, ControlField}
 use Rattle.machine.specs.declared.Verdict.{Verdict}
 use Rattle.machine.specs.declared.Verdict.the-variants.{Accepted, Rejected}
-use Rattle.machine.specs.Store.{word, putWord}
-use Rattle.machine.specs.Fields.{withIR}
+use Rattle.machine.specs.Store.{word, putWord, putKey, absent}
+use Rattle.machine.specs.Fields.{withIR, withEX, flagsCleared}
 use Rattle.machine.specs.Records.{resetRecord, returnAddress}
 use Rattle.machine.specs.Answers.{verdictNumber}
-use Rattle.machine.proofs.StoreLaws.{length-putWord, word-other, word-same, key-putWord}
-use Rattle.acceptance.specs.Accept.{sizeFits, cellsFit, controlFits, judgeMachine}
-use Rattle.definition.specs.Machine.{Machine, machine, resetSystem}
+use Rattle.machine.proofs.StoreLaws.{length-putWord, word-other, word-same, key-putWord, length-putKey, word-putKey, key-other, key-same}
+use Rattle.acceptance.specs.Accept.{sizeFits, cellsFit, controlFits, judgeMachine, judgeDevices, judgeAutoload}
+use Rattle.integer.specs.Bitwise.{logicalOr}
+use Rattle.integer.proofs.Digits.{or-is}
+use Rattle.definition.specs.Machine.{Computer, computer, Channel, Machine, machine, computerOf, reached, resetSystem}
+use Rattle.definition.specs.Channel.{readFrom, fourLeft, shiftedIn, assembled}
+use Rattle.definition.specs.MicroOps.{microStep, monitorStep, deviceStep, deviceSteps}
+use Rattle.definition.specs.Meaning.{autoloading}
 use Rattle.definition.proofs.Validity.{Valid, both, accepted-valid}
+use Rattle.definition.proofs.DeviceLaws.{Characters, fits-channel, ValidComputer}
 use Rattle.running.specs.Cycle.{bitOf, requested, firstRequest, looksAtLines, lineOf, bitAlone, lineCleared, entryRecord, enter, cycle}
-use Rattle.running.specs.Run.{inReset, judgeOf}
-use Rattle.running.specs.Keys.{pressedBy, resetKey, startRecord, startKey, pressingReset, pressingStart}
-use Rattle.running.specs.Claims.{SameCells, ResetPressed, StartPressed, ResetKey, StartKey, RefusedKeys, KeyNumbers, Entered, LineTaken, EntryBy, EntryOfCycle, LinesTaken}
+use Rattle.running.specs.Run.{inReset, judgeOf, devicesFitOf}
+use Rattle.running.specs.Keys.{pressedBy, resetKey, startRecord, startKey, autoloadRecord, autoloadKey, pressingReset, pressingStart, judgeAutoloadOf, pressingAutoload}
+use Rattle.running.specs.Claims.{SameCells, ResetPressed, StartPressed, ResetKey, StartKey, RefusedKeys, KeyNumbers, AutoloadPressed, AutoloadKey, RefusedAutoload, AutoloadNumbers, AssembledWord, Entered, LineTaken, EntryBy, EntryOfCycle, LinesTaken}
 use Rattle.running.proofs.RunLaws.{Meets}
-use Rattle.running.proofs.CycleLaws.{cycle-meets}
+use Rattle.running.proofs.CycleLaws.{entered, lined, cycle-meets}
 use Rattle.running.proofs.CycleValid.{valid-lined, valid-fetch}
-use Rattle.running.proofs.Entries.{entered}
+use Rattle.running.proofs.Entries.{entry-made}
+use Rattle.running.proofs.Promises.{accepted-both}
 
 -- ---- panel keys
 
 same-put : (a : ℕ) (s : List ℕ) (v : ℕ) → SameCells a a s (putWord s (a / 2) v)
 same-put a s v = record { size = length-putWord s (a / 2) v; keys = key-putWord s (a / 2) v; words = λ i h k. word-other s (a / 2) v i h }
 
-pressed-machine : (m n : Machine) → judgeOf m ≡ Accepted → pressedBy (judgeOf m) m n .machine ≡ n
-pressed-machine m n e = rw e
+pressed-machine : {M : Type 0} (v : Verdict) (m n : M) → v ≡ Accepted → pressedBy v m n .machine ≡ n
+pressed-machine v m n e = rw e
 
-reset-pressed : (m : Machine) → Valid m → ResetPressed m (resetSystem (m .cells) (m .control))
+reset-pressed : (m : Computer) → Valid m → ResetPressed m (resetSystem (m .cells) (m .control))
 unfolding resetSystem resetRecord
 reset-pressed m h =
     record {
@@ -52,11 +60,11 @@ reset-pressed m h =
 pub reset-key : ResetKey
 unfolding pressingReset resetKey
 reset-key m e =
-    let pressed = pressed-machine m (resetKey (m .cells) (m .control)) e in
-    let by : Bool → Machine = λ b. cond b m (resetSystem (m .cells) (m .control)) in
+    let pressed = pressed-machine (judgeMachine (m .cells) (m .control)) m (resetKey (m .cells) (m .control)) e in
+    let by : Bool → Computer = λ b. cond b m (resetSystem (m .cells) (m .control)) in
     (λ o. subst (ResetPressed m) (sym (pressed ∙ ap by o)) (reset-pressed m (accepted-valid m e)), λ i. pressed ∙ ap by i)
 
-start-pressed : (m : Machine) → StartPressed m (machine (m .cells) (startRecord (m .control) (word (m .cells) 7)))
+start-pressed : (m : Computer) → StartPressed m (computer (m .cells) (startRecord (m .control) (word (m .cells) 7)))
 unfolding startRecord
 start-pressed m =
     record { ic = refl; state = refl; cells = refl; kept = (refl, refl, record { im = refl; pr = refl; ex = refl }); modes = (refl, refl) }
@@ -64,15 +72,15 @@ start-pressed m =
 pub start-key : StartKey
 unfolding pressingStart startKey
 start-key m e =
-    let pressed = pressed-machine m (startKey (m .cells) (m .control)) e in
-    let by : Bool → Machine = λ b. cond b (machine (m .cells) (startRecord (m .control) (word (m .cells) 7))) m in
+    let pressed = pressed-machine (judgeMachine (m .cells) (m .control)) m (startKey (m .cells) (m .control)) e in
+    let by : Bool → Computer = λ b. cond b (computer (m .cells) (startRecord (m .control) (word (m .cells) 7))) m in
     (λ i. subst (StartPressed m) (sym (pressed ∙ ap by i)) (start-pressed m), λ o. pressed ∙ ap by o)
 
 pub refused-keys : RefusedKeys
 unfolding pressingReset pressingStart
 refused-keys m q e = (rw e, rw e)
 
-number-kept : (v : Verdict) (m n : Machine) → verdictNumber (pressedBy v m n .verdict) ≡ verdictNumber v
+number-kept : {M : Type 0} (v : Verdict) (m n : M) → verdictNumber (pressedBy v m n .verdict) ≡ verdictNumber v
 number-kept Accepted m n = refl
 number-kept (Rejected q) m n = refl
 
@@ -85,8 +93,10 @@ machine-number false b c = refl
 pub key-numbers : KeyNumbers
 unfolding pressingReset pressingStart judgeMachine
 key-numbers m =
-    let due = machine-number (sizeFits (length (m .cells))) (cellsFit (m .cells)) (controlFits (m .control)) in
-    (number-kept (judgeOf m) m (resetKey (m .cells) (m .control)) ∙ due, number-kept (judgeOf m) m (startKey (m .cells) (m .control)) ∙ due)
+    let due = machine-number (sizeFits (length (m .cells))) (cellsFit (m .cells)) (controlFits (m .control)) in (
+      number-kept (judgeMachine (m .cells) (m .control)) m (resetKey (m .cells) (m .control)) ∙ due,
+      number-kept (judgeMachine (m .cells) (m .control)) m (startKey (m .cells) (m .control)) ∙ due,
+    )
 
 -- ---- the line that is taken
 
@@ -133,13 +143,12 @@ unfolding lineCleared withIR bitAlone bitOf
 line-cleared c p l e = let w = weight (c .ir) (2 ^ (23 - p)) e in rw e (omega arith)
 
 -- the entry by a line keeps what is not IR
-other-ir : {v : ℕ} (m n : Machine) (r : ℕ) → Entered v (machine (m .cells) (withIR (m .control) r)) n → Entered v m n
+other-ir : {v : ℕ} (m n : Machine) (r : ℕ) → Entered v (machine (m .cells) (withIR (m .control) r) (m .channel)) n → Entered v m n
 unfolding withIR
 other-ir m n r e =
-    record { number = e .number; returns = e .returns; ic = e .ic; state = e .state; cells = e .cells; kept = (e .kept .0, record { im = e .kept .1 .im; pr = e .kept .1 .pr; ex = e .kept .1 .ex }) }
+    record { number = e .number; returns = e .returns; ic = e .ic; state = e .state; cells = e .cells; kept = (e .kept .0, record { im = e .kept .1 .im; pr = e .kept .1 .pr; ex = e .kept .1 .ex }); channel = e .channel }
 
-line-taken : (m : Machine) → Valid m → lineOf (m .control) < 24
-    → LineTaken (lineOf (m .control)) m (enter (lineOf (m .control) * 2) (m .cells) (lineCleared (m .control) (lineOf (m .control))))
+line-taken : (m : Machine) → ValidComputer m → lineOf (m .control) < 24 → LineTaken (lineOf (m .control)) m (entered (lineOf (m .control) * 2) (lined m))
 unfolding lineOf looksAtLines requested lineCleared enter entryRecord
 line-taken m h l =
     let c = m .control in
@@ -157,7 +166,7 @@ line-taken m h l =
       masked = eqb-true (bitOf (c .im) p) 1 (bits .1);
       leftmost = λ i k. not-requested (c .ir) (c .im) i (first .before i (omega arith) k);
       cleared = line-cleared c p (h .widths .ir) raised;
-      entered = other-ir m _ _ (entered (p * 2) (machine (m .cells) (lineCleared c p)) (omega arith) (valid-lined m h));
+      entered = other-ir m _ _ (entry-made (p * 2) (lined m) (omega arith) (valid-lined m h));
     }
 
 first-least : (p ir im : ℕ) → bitOf ir p ≡ 1 → bitOf im p ≡ 1 → firstRequest 24 0 ir im ≤ p
@@ -175,14 +184,114 @@ lines-taken m p l e n a b =
     let taken : lineOf c < 24 = rw looks (omega (arith, first-least p (c .ir) (c .im) a b)) in
     rw (lt-ltb (lineOf c) 24 taken)
 
-entry-by : (m : Machine) → Valid m → inReset m ≡ false → Meets Valid (λ k n. EntryBy k m n) (cycle m)
+entry-by : (m : Machine) → ValidComputer m → inReset m ≡ false → Meets ValidComputer (λ k n. EntryBy k m n) (cycle m)
 unfolding enter entryRecord
 entry-by m h e =
-    cycle-meets Valid (λ k n. EntryBy k m n) m (valid-fetch m (record { valid = h; running = e }))
-    (λ f n q v. record { cause = f; left = n; met = q; ir = refl; entered = entered 0 n (omega arith) v })
+    cycle-meets ValidComputer (λ k n. EntryBy k m n) m (valid-fetch m e h)
+    (λ f n q v. record { cause = f; left = n; met = q; ir = refl; entered = entry-made 0 n (omega arith) v })
     (λ l. let p = lineOf (m .control) in
     let half : p * 2 / 2 ≡ p = omega arith in
-    (ap (λ x. x * 2) (sym half), subst (λ x. LineTaken x m (enter (p * 2) (m .cells) (lineCleared (m .control) p))) (sym half) (line-taken m h l)))
+    (ap (λ x. x * 2) (sym half), subst (λ x. LineTaken x m (entered (p * 2) (lined m))) (sym half) (line-taken m h l)))
 
 pub entry-of-cycle : EntryOfCycle
-entry-of-cycle m n k e o q = rw q at (entry-by m (accepted-valid m e) o)
+entry-of-cycle m n k e o q = rw q at (entry-by m (accepted-valid (computerOf m) e) o)
+
+-- ---- autoload key
+
+pub refused-autoload : RefusedAutoload
+unfolding pressingAutoload
+refused-autoload m q e = rw e
+
+autoload-number : (a b c f : Bool)
+    → verdictNumber (judgeDevices (cond a (cond b (cond c Accepted (Rejected ControlField)) (Rejected CellValue)) (Rejected StoreSize)) f)
+    ≡ cond a (cond b (cond c (cond f 0 13) 3) 2) 1
+autoload-number true true true true = refl
+autoload-number true true true false = refl
+autoload-number true true false f = refl
+autoload-number true false c f = refl
+autoload-number false b c f = refl
+
+pub autoload-numbers : AutoloadNumbers
+unfolding pressingAutoload judgeAutoload judgeMachine
+autoload-numbers m =
+    number-kept (judgeAutoloadOf m) m (autoloadKey m) ∙ autoload-number (sizeFits (length (m .cells))) (cellsFit (m .cells)) (controlFits (m .control)) (devicesFitOf m)
+
+-- a character is shifted into AR
+shifted : (ar c : ℕ) → ar < 262144 → c < 64 → shiftedIn ar c ≡ ar * 64 + c
+unfolding shiftedIn logicalOr
+shifted ar c l h =
+    let small : ar * 64 % 16777216 ≡ ar * 64 = mod-eq-of-lt (omega arith) in
+    rw small (sym (or-is 24 (ar * 64) c (omega arith) (omega arith)) ∙ or-shifted ar 6 c h)
+
+pub assembled-word : AssembledWord
+unfolding assembled
+assembled-word a b c d cs p q r s =
+    let one : shiftedIn 0 a ≡ a = shifted 0 a (omega arith) p ∙ omega arith in
+    rw (one, shifted a b (omega arith) q, shifted (a * 64 + b) c (omega arith) r, shifted ((a * 64 + b) * 64 + c) d (omega arith) s) (omega arith)
+
+-- the channel with other characters
+abbrev reading : List ℕ → Channel → Channel
+reading cs h = record { reader = h .reader; typewriter = h .typewriter; characters = cs; typed = h .typed; space = h .space }
+
+abbrev autoloaded : List ℕ → Machine → Machine
+autoloaded cs m = reached (deviceSteps 0 (autoloading 0 cs) (machine (m .cells) (autoloadRecord (m .control)) (reading cs (m .channel))))
+
+loads : (a b c d : ℕ) (cs : List ℕ) (m : Machine) → 8 ≤ length (m .cells)
+    → autoloaded (a ∷ b ∷ c ∷ d ∷ cs) m
+    ≡ machine (putKey (putWord (m .cells) 0 (assembled 4 0 (a ∷ b ∷ c ∷ d ∷ cs))) 0 0)
+    (flagsCleared (flagsCleared (flagsCleared (flagsCleared (autoloadRecord (m .control))))))
+    (record { reader = d; typewriter = m .channel .typewriter; characters = cs; typed = m .channel .typed; space = m .channel .space })
+unfolding deviceSteps deviceStep monitorStep microStep autoloading readFrom absent
+loads a b c d cs m l = rw (lt-leb (length (m .cells)) 0 (omega arith))
+
+-- EX(22:23) := 0, four times
+cleared-again : (x : ℕ) → x < 8 → x / 4 * 4 % 8 / 4 * 4 % 8 / 4 * 4 % 8 / 4 * 4 % 8 ≡ x / 4 * 4
+cleared-again x l =
+    let once : x / 4 * 4 % 8 ≡ x / 4 * 4 = omega arith in
+    let twice : x / 4 * 4 / 4 * 4 ≡ x / 4 * 4 = omega arith in
+    rw (once, twice, once, twice, once, twice, once)
+
+autoload-pressed : (cs : List ℕ) (m : Machine) → Valid (computerOf m) → Characters cs → 4 ≤ length cs
+    → AutoloadPressed (machine (m .cells) (m .control) (reading cs (m .channel))) (autoloaded cs m)
+unfolding Characters flagsCleared withEX autoloadRecord
+autoload-pressed [] m h v l = absurd (omega arith)
+autoload-pressed (a ∷ []) m h v l = absurd (omega arith)
+autoload-pressed (a ∷ b ∷ []) m h v l = absurd (omega arith)
+autoload-pressed (a ∷ b ∷ c ∷ []) m h v l = absurd (omega arith)
+autoload-pressed (a ∷ b ∷ c ∷ d ∷ cs) m h v l =
+    let w = assembled 4 0 (a ∷ b ∷ c ∷ d ∷ cs) in
+    let value : w ≡ a * 262144 + b * 4096 + c * 64 + d = assembled-word a b c d cs (v 0) (v 1) (v 2) (v 3) in
+    let small : w < 16777216 = rw value (omega (arith, v 0, v 1, v 2, v 3)) in
+    let stored = putWord (m .cells) 0 w in
+    rw (loads a b c d cs m (h .least)) (record {
+      loaded = word-putKey stored 0 0 0 ∙ word-same (m .cells) 0 w (omega (arith, h .least)) ∙ mod-eq-of-lt small;
+      unprotected = key-same stored 0 0 (rw length-putWord (omega (arith, h .least)));
+      size = length-putKey stored 0 0 ∙ length-putWord (m .cells) 0 w;
+      cells = λ i n. (word-putKey stored 0 0 i ∙ word-other (m .cells) 0 w i n, key-other stored 0 0 i n ∙ key-putWord (m .cells) 0 w i);
+      ic = refl;
+      ex = cleared-again (m .control .ex) (h .widths .ex);
+      state = refl;
+      kept = (refl, refl, refl, refl);
+      modes = (refl, refl);
+      characters = refl;
+      register = refl;
+      typewriter = (refl, refl, refl);
+    })
+
+pub autoload-key : AutoloadKey
+unfolding pressingAutoload autoloadKey fourLeft judgeAutoload
+autoload-key m e =
+    let pressed = pressed-machine (judgeAutoloadOf m) m (autoloadKey m) e in
+    let cs = m .channel .characters in
+    let four : Bool → Machine = λ b. cond b (autoloaded cs m) m in
+    let by : Bool → Machine = λ b. cond b (four (fourLeft cs)) m in
+    let fits = accepted-both (judgeOf m) (devicesFitOf m) e in (
+      λ i l. subst (AutoloadPressed m) (sym (pressed ∙ ap by i ∙ ap four (le-leb 4 (length cs) l)))
+          (autoload-pressed cs m (accepted-valid (computerOf m) (fits .0)) (fits-channel (m .channel) (fits .1) .characters) l),
+      λ o. pressed ∙ ap by o,
+      λ l. pressed ∙ ap (λ b. cond (m .control .reset) (four b) m) (lt-leb 4 (length cs) l) ∙ same (m .control .reset),
+    )
+  where
+    same : (b : Bool) → cond b m m ≡ m
+    same true = refl
+    same false = refl

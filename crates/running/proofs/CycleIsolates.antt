@@ -1,45 +1,42 @@
--- A cycle in task mode keeps the protected part, save words 8 and 10 where it enters an interruption. No instruction is looked at.
+-- A cycle in task mode keeps the protected part, save words 8 and 10 where it enters an interruption, and touches no device. No instruction is looked at.
 -- Assumes nothing.
 use Prim.Native.Nat.{ℕ, _*_, _/_, _<_}
 use native.Mathlib.Omega.{arith}
-use mathlib.Core.Path.{_≡_, refl, sym, _∙_}
+use mathlib.Core.Path.{_≡_, refl, sym, subst, _∙_}
 use mathlib.Core.Bool.{Bool, true, false, not, cond, true≢false}
 use Rattle.machine.specs.declared.Control.{Control}
-use Rattle.machine.specs.declared.Instruction.{Instruction}
-use Rattle.machine.specs.Store.{word, putWord, absent, violation}
+use Rattle.machine.specs.Store.{word, putWord, violation}
 use Rattle.machine.specs.Fields.{withIC, withIR}
 use Rattle.machine.specs.Records.{interruptionProgram}
 use Rattle.integer.specs.Sums.{sum24}
 use Rattle.acceptance.specs.Accept.{stateFits}
-use Rattle.definition.specs.Machine.{Machine, machine}
-use Rattle.definition.specs.Codes.{executing, operating}
+use Rattle.definition.specs.Machine.{Computer, computer, Machine, machine, computerOf, reached}
+use Rattle.definition.specs.Codes.{executing, executingDevice, operating}
 use Rattle.definition.specs.Protected.{EqualProtected}
-use Rattle.definition.proofs.MicroLaws.{reached, reach-cond}
 use Rattle.definition.proofs.Isolation.{equal-trans, equal-fewer, equal-put, equal-control, Isolated, isolated-control, allowed-cell, isolated-perform}
-use Rattle.definition.proofs.Validity.{Valid}
-use Rattle.running.specs.Runs.{CycleResult}
-use Rattle.running.specs.Cycle.{lineOf, lineCleared, entryRecord, enter, fetched, indirectAbsent, operate, fetchRecord, decode, fetch, cycle}
+use Rattle.definition.proofs.DeviceLaws.{task-device, ValidComputer}
+use Rattle.running.specs.Cycle.{lineOf, lineCleared, entryRecord, enter, fetchRecord, fetch, cycle}
 use Rattle.running.specs.Run.{inReset}
 use Rattle.running.proofs.RunLaws.{Meets}
-use Rattle.running.proofs.CycleLaws.{register-field, cycle-meets}
+use Rattle.running.proofs.CycleLaws.{operating-meets, stepped, begun, fetch-meets, entered, lined, cycle-meets}
 use Rattle.running.proofs.CycleValid.{valid-lined, valid-fetch}
 
 -- `n` has entered an interruption with the protected part of `m`, save words 8 and 10
-pub record Entry (m n : Machine) : Type 0 where
+pub record Entry (m n : Computer) : Type 0 where
   pub equal : EqualProtected 12 m n
   pub monitor : n .control .monitor ≡ true
   pub disabled : n .control .enabled ≡ false
   pub pending : n .control .pending ≡ 0
   pub starts : n .control .ic ≡ word (n .cells) (interruptionProgram / 2) / 2 * 2
 
-two-words : (v i : ℕ) (n : Machine) (c : Control) → c .pr ≡ n .control .pr → c .im ≡ n .control .im
-    → EqualProtected 12 n (machine (putWord (putWord (n .cells) 4 v) 5 i) c)
+two-words : (v i : ℕ) (n : Computer) (c : Control) → c .pr ≡ n .control .pr → c .im ≡ n .control .im
+    → EqualProtected 12 n (computer (putWord (putWord (n .cells) 4 v) 5 i) c)
 two-words v i n c p q =
-    let first : Machine = machine (putWord (n .cells) 4 v) (n .control) in
+    let first : Computer = computer (putWord (n .cells) 4 v) (n .control) in
     equal-trans (equal-put 12 n 4 v (λ j l f. omega arith))
-    (equal-trans (equal-put 12 first 5 i (λ j l f. omega arith)) (equal-control 12 (machine (putWord (first .cells) 5 i) (n .control)) c p q))
+    (equal-trans (equal-put 12 first 5 i (λ j l f. omega arith)) (equal-control 12 (computer (putWord (first .cells) 5 i) (n .control)) c p q))
 
-enter-entry : {m : Machine} (v : ℕ) (n : Machine) → Isolated m n → Entry m (enter v (n .cells) (n .control))
+enter-entry : {m : Computer} (v : ℕ) (n : Computer) → Isolated m n → Entry m (enter v (n .cells) (n .control))
 unfolding enter entryRecord
 enter-entry v n h =
     record {
@@ -50,35 +47,50 @@ enter-entry v n h =
       starts = refl;
     }
 
-isolated-operate : {m : Machine} (i : Instruction) (a : ℕ) (n : Machine) → i .w < 4 → Isolated m n → Isolated m (reached (operate (n .cells) (n .control) i a))
-unfolding operate operating executing
-isolated-operate {m} i a n l h = reach-cond (Isolated m) (indirectAbsent (n .cells) (i .m) a) _ _ (λ e. h) (λ e. isolated-perform m (i .w) _ n l h)
+-- ---- with the devices of `m`
 
-isolated-record : {m : Machine} (n : Machine) (b : Bool) → b ≡ false → Isolated m n → Isolated m (machine (n .cells) (fetchRecord (n .control) b))
+pub record Confined (m n : Machine) : Type 0 where
+  pub isolated : Isolated (computerOf m) (computerOf n)
+  pub channel : n .channel ≡ m .channel
+
+pub record ConfinedEntry (m n : Machine) : Type 0 where
+  pub entry : Entry (computerOf m) (computerOf n)
+  pub channel : n .channel ≡ m .channel
+
+confined-control : {m : Machine} (n : Machine) (c : Control) → c .pr ≡ n .control .pr → c .im ≡ n .control .im → c .monitor ≡ n .control .monitor → Confined m n
+    → Confined m (machine (n .cells) c (n .channel))
+confined-control n c p q t h = record { isolated = isolated-control c p q t (h .isolated); channel = h .channel }
+
+confined-stepped : {m : Machine} (n : Machine) → Confined m n → Confined m (stepped n)
+unfolding withIC
+confined-stepped n h = confined-control n (withIC (n .control) (sum24 (n .control .ic) 2)) refl refl refl h
+
+confined-begun : {m : Machine} (n : Machine) → violation (n .cells) (n .control) (n .control .ic / 2) ≡ false → Confined m n → Confined m (begun n)
 unfolding fetchRecord
-isolated-record n b e h = isolated-control _ refl refl (e ∙ sym (h .task)) h
+confined-begun n e h = confined-control n _ refl refl (allowed-cell (computerOf n) (n .control .ic / 2) (h .isolated .task) e ∙ sym (h .isolated .task)) h
 
-isolated-decode : {m : Machine} (n : Machine) → Isolated m n → Isolated m (reached (decode (n .cells) (n .control)))
-unfolding decode withIC
-isolated-decode {m} n h =
-    reach-cond (Isolated m) (violation (n .cells) (n .control) (n .control .ic / 2)) _ _ (λ e. isolated-control _ refl refl refl h)
-    (λ e. isolated-operate _ _ _ (register-field (fetched (n .cells) (n .control .ic))) (isolated-record n _ (allowed-cell n (n .control .ic / 2) (h .task) e) h))
+-- Test Mode: IO and AW reach nothing
+confined-operating : {m : Machine} (f w sb : ℕ) (n : Machine) → w < 4 → Confined m n → Confined m (reached (operating f w sb n))
+unfolding executing executingDevice
+confined-operating {m} f w sb n l h =
+    operating-meets (Confined m) f w sb n
+    (λ o. record { isolated = isolated-perform (computerOf m) w _ (computerOf n) l (h .isolated); channel = h .channel })
+    (λ p. subst (λ e. Confined m (reached e)) (sym (task-device w _ n (h .isolated .task))) h)
 
-isolated-fetch : {m : Machine} (n : Machine) → Isolated m n → Isolated m (reached (fetch (n .cells) (n .control)))
-unfolding fetch
-isolated-fetch {m} n h =
-    reach-cond (Isolated m) (absent (n .cells) (n .control .ic)) _ _ (λ e. h)
-    (λ e. reach-cond (Isolated m) (absent (n .cells) (sum24 (n .control .ic) 1)) _ _ (λ f. h) (λ f. isolated-decode n h))
+confined-fetch : {m : Machine} (n : Machine) → Confined m n → Confined m (reached (fetch (n .cells) (n .control) (n .channel)))
+confined-fetch {m} n h =
+    fetch-meets (Confined m) n h (confined-stepped n h) (λ e. (confined-begun n e h, λ w sb l. confined-operating _ w sb (begun n) l (confined-begun n e h)))
 
--- between cycles `Isolated m`, after an entry `Entry m`
-abbrev pub Isolates : Machine → CycleResult Machine → Type 0
-Isolates m = Meets (Isolated m) (λ k. Entry m)
-
-pub cycle-isolates : (m n : Machine) → Isolated m n → Isolates m (cycle n)
+confined-lined : {m : Machine} (n : Machine) → Confined m n → Confined m (lined n)
 unfolding lineCleared withIR
-cycle-isolates m n h =
-    cycle-meets (Isolated m) (λ k. Entry m) n (isolated-fetch n h) (λ f k e. enter-entry 0 k)
-    (λ l. enter-entry _ (machine (n .cells) (lineCleared (n .control) (lineOf (n .control)))) (isolated-control _ refl refl refl h))
+confined-lined n h = confined-control n _ refl refl refl h
+
+confined-entry : {m : Machine} (v : ℕ) (n : Machine) → Confined m n → ConfinedEntry m (entered v n)
+confined-entry v n h = record { entry = enter-entry v (computerOf n) (h .isolated); channel = h .channel }
+
+pub cycle-confines : (m n : Machine) → Confined m n → Meets (Confined m) (λ k. ConfinedEntry m) (cycle n)
+cycle-confines m n h =
+    cycle-meets (Confined m) (λ k. ConfinedEntry m) n (confined-fetch n h) (λ f k e. confined-entry 0 k) (λ l. confined-entry _ (lined n) (confined-lined n h))
 
 -- ---- an entry from task mode is not in the reset state, since the reset state implies monitor mode
 
@@ -89,17 +101,16 @@ not-reset false t e h q = refl
 
 -- between cycles: an accepted machine in task mode, with the protected part of `m`
 pub record Task (m n : Machine) : Type 0 where
-  pub isolated : Isolated m n
-  pub valid : Valid n
+  pub confined : Confined m n
+  pub valid : ValidComputer n
 
-entered-outside : {m : Machine} (v : ℕ) (n : Machine) → Task m n → inReset (enter v (n .cells) (n .control)) ≡ false
+entered-outside : {m : Machine} (v : ℕ) (n : Machine) → Task m n → inReset (entered v n) ≡ false
 unfolding enter entryRecord stateFits
-entered-outside v n h = not-reset (n .control .reset) (n .control .monitor) (n .control .enabled) (h .isolated .task) (h .valid .state)
+entered-outside v n h = not-reset (n .control .reset) (n .control .monitor) (n .control .enabled) (h .confined .isolated .task) (h .valid .state)
 
 pub cycle-outside : (m n : Machine) → inReset n ≡ false → Task m n → Meets (Task m) (λ k n. inReset n ≡ false) (cycle n)
-unfolding lineCleared withIR
 cycle-outside m n e h =
     cycle-meets (Task m) (λ k n. inReset n ≡ false) n
-    (record { isolated = isolated-fetch n (h .isolated); valid = valid-fetch n (record { valid = h .valid; running = e }) })
+    (record { confined = confined-fetch n (h .confined); valid = valid-fetch n e (h .valid) })
     (λ f k q. entered-outside 0 k)
-    (λ l. entered-outside _ _ (record { isolated = isolated-control _ refl refl refl (h .isolated); valid = valid-lined n (h .valid) }))
+    (λ l. entered-outside _ (lined n) (record { confined = confined-lined n (h .confined); valid = valid-lined n (h .valid) }))

@@ -1,8 +1,8 @@
 -- What a cycle reaches: by its instruction, by an exception, or by a line.
 -- Assumes nothing.
-use Prim.Native.Nat.{ℕ, _*_, _<_}
+use Prim.Native.Nat.{ℕ, _*_, _/_, _<_}
 use native.Mathlib.Omega.{arith}
-use mathlib.Core.Path.{_≡_, refl}
+use mathlib.Core.Path.{_≡_, refl, sym, subst}
 use mathlib.Core.Bool.{Bool, true, false, cond}
 use lib.Dec.{ltb}
 use borrow.Author.Tests.{ltb-true}
@@ -10,20 +10,81 @@ use Rattle.machine.specs.declared.Fault.{Fault}
 use Rattle.machine.specs.declared.Kind.{Kind}
 use Rattle.machine.specs.declared.Kind.the-variants.{Exception, Line}
 use Rattle.machine.specs.Format.{instructionFields}
-use Rattle.definition.specs.Machine.{Machine, Effect, ok, fault}
-use Rattle.definition.proofs.MicroLaws.{reached}
+use Rattle.machine.specs.declared.Instruction.{Instruction}
+use Rattle.machine.specs.Store.{absent, forbidden, violation}
+use Rattle.machine.specs.Fields.{withIC}
+use Rattle.integer.specs.Sums.{sum24}
+use Rattle.definition.specs.Machine.{Machine, machine, connected, Effect, ok, fault, reached}
+use Rattle.definition.specs.Meaning.{Op, Peripheral}
+use Rattle.definition.specs.Codes.{Mnemonic, internal, device, codes, lookup, executing, executingDevice, operatingBy, operating}
+use Rattle.definition.proofs.MicroLaws.{reach-cond}
+use Rattle.definition.proofs.DeviceLaws.{reached-lifted}
 use Rattle.running.specs.Runs.{CycleResult}
-use Rattle.running.specs.Cycle.{lineOf, lineCleared, enter, fetch, concluded, cycle}
+use Rattle.running.specs.Cycle.{lineOf, lineCleared, enter, fetched, indirectAbsent, effectiveAddress, operate, fetchRecord, decode, fetch, concluded, cycle}
+use Rattle.running.specs.Promises.{codeAt}
 use Rattle.running.proofs.RunLaws.{Meets}
 
 pub register-field : (v : ℕ) → instructionFields v .w < 4
 unfolding instructionFields
 register-field v = omega arith
 
+-- ---- the operation
+
+by-mnemonic : (P : Machine → Type 0) (x : Mnemonic) (w sb : ℕ) (m : Machine) → ((o : Op) → P (connected (m .channel) (reached (executing o w sb (m .cells) (m .control)))))
+    → ((p : Peripheral) → P (reached (executingDevice p w sb m))) → P (reached (operatingBy x w sb m))
+by-mnemonic P (internal o) w sb m i d = subst P (sym (reached-lifted (m .channel) (executing o w sb (m .cells) (m .control)))) (i o)
+by-mnemonic P (device p) w sb m i d = d p
+
+-- an operation is one without devices, or IO or AW
+pub operating-meets : (P : Machine → Type 0) (f w sb : ℕ) (m : Machine) → ((o : Op) → P (connected (m .channel) (reached (executing o w sb (m .cells) (m .control)))))
+    → ((p : Peripheral) → P (reached (executingDevice p w sb m))) → P (reached (operating f w sb m))
+unfolding operating
+operating-meets P f w sb m i d = by-mnemonic P (lookup f codes) w sb m i d
+
+-- ---- fetch and decode
+
+-- IC := IC + 2
+abbrev pub stepped : Machine → Machine
+stepped m = machine (m .cells) (withIC (m .control) (sum24 (m .control .ic) 2)) (m .channel)
+
+-- the machine as its operation begins
+abbrev pub begun : Machine → Machine
+begun m = machine (m .cells) (fetchRecord (m .control) (forbidden (m .cells) (m .control) (m .control .ic / 2))) (m .channel)
+
+module _ (P : Machine → Type 0) (m : Machine) (as-it-was : P m) (forbidden-fetch : P (stepped m)) where
+  abbrev Operates : Type 0
+  Operates =
+      violation (m .cells) (m .control) (m .control .ic / 2) ≡ false → P (begun m) × ((w sb : ℕ) → w < 4 → P (reached (operating (codeAt m) w sb (begun m))))
+
+  operate-meets : (i : Instruction) (a : ℕ) → i ≡ instructionFields (fetched (m .cells) (m .control .ic)) → violation (m .cells) (m .control) (m .control .ic / 2) ≡ false → Operates
+      → P (reached (operate (begun m .cells) (begun m .control) (begun m .channel) i a))
+  unfolding operate
+  operate-meets i a e v h =
+      reach-cond P (indirectAbsent (m .cells) (i .m) a) _ _ (λ t. h v .0)
+      (λ t. subst (λ j. P (reached (operating (j .code) (j .w) (effectiveAddress (m .cells) (i .m) a) (begun m)))) (sym e) (h v .1 _ _ (register-field (fetched (m .cells) (m .control .ic)))))
+
+  decode-meets : Operates → P (reached (decode (m .cells) (m .control) (m .channel)))
+  unfolding decode
+  decode-meets h = reach-cond P (violation (m .cells) (m .control) (m .control .ic / 2)) _ _ (λ e. forbidden-fetch) (λ e. operate-meets _ _ refl e h)
+
+  pub fetch-meets : Operates → P (reached (fetch (m .cells) (m .control) (m .channel)))
+  unfolding fetch
+  fetch-meets h =
+      reach-cond P (absent (m .cells) (m .control .ic)) _ _ (λ e. as-it-was)
+      (λ e. reach-cond P (absent (m .cells) (sum24 (m .control .ic) 1)) _ _ (λ f. as-it-was) (λ f. decode-meets h))
+
+-- ---- the cycle
+
+-- an entry with the number v
+abbrev pub entered : ℕ → Machine → Machine
+entered v n = connected (n .channel) (enter v (n .cells) (n .control))
+
+abbrev pub lined : Machine → Machine
+lined m = machine (m .cells) (lineCleared (m .control) (lineOf (m .control))) (m .channel)
+
 -- I holds of what the instruction reaches, and an entry, from there or by a line, leads to E
 module _ (I : Machine → Type 0) (E : Kind → Machine → Type 0) where
-  concluded-meets : (e : Effect) → I (reached e) → ((f : Fault) (n : Machine) → e ≡ fault f n → I n → E Exception (enter 0 (n .cells) (n .control)))
-      → Meets I E (concluded e)
+  concluded-meets : (e : Effect Machine) → I (reached e) → ((f : Fault) (n : Machine) → e ≡ fault f n → I n → E Exception (entered 0 n)) → Meets I E (concluded e)
   unfolding concluded
   concluded-meets (ok n) h x = h
   concluded-meets (fault f n) h x = x f n refl h
@@ -32,10 +93,10 @@ module _ (I : Machine → Type 0) (E : Kind → Machine → Type 0) where
   by-test true x y p q = p refl
   by-test false x y p q = q
 
-  pub cycle-meets : (m : Machine) → I (reached (fetch (m .cells) (m .control)))
-      → ((f : Fault) (n : Machine) → fetch (m .cells) (m .control) ≡ fault f n → I n → E Exception (enter 0 (n .cells) (n .control)))
-      → (lineOf (m .control) < 24 → E (Line (lineOf (m .control) * 2)) (enter (lineOf (m .control) * 2) (m .cells) (lineCleared (m .control) (lineOf (m .control)))))
+  pub cycle-meets : (m : Machine) → I (reached (fetch (m .cells) (m .control) (m .channel)))
+      → ((f : Fault) (n : Machine) → fetch (m .cells) (m .control) (m .channel) ≡ fault f n → I n → E Exception (entered 0 n))
+      → (lineOf (m .control) < 24 → E (Line (lineOf (m .control) * 2)) (entered (lineOf (m .control) * 2) (lined m)))
       → Meets I E (cycle m)
   unfolding cycle
   cycle-meets m h x l =
-      by-test (ltb (lineOf (m .control)) 24) _ _ (λ t. l (ltb-true (lineOf (m .control)) 24 t)) (concluded-meets (fetch (m .cells) (m .control)) h x)
+      by-test (ltb (lineOf (m .control)) 24) _ _ (λ t. l (ltb-true (lineOf (m .control)) 24 t)) (concluded-meets (fetch (m .cells) (m .control) (m .channel)) h x)

@@ -12,12 +12,12 @@ use Rattle.machine.specs.Store.{word, putWord}
 use Rattle.machine.specs.Answers.{kindNumber}
 use Rattle.machine.proofs.StoreLaws.{length-putWord, word-other, word-same, key-putWord}
 use Rattle.definition.specs.Machine.{Machine}
-use Rattle.definition.proofs.Validity.{Valid}
+use Rattle.definition.proofs.DeviceLaws.{ValidComputer}
 use Rattle.running.specs.Cycle.{lineOf, entryRecord, enter, cycle}
 use Rattle.running.specs.Run.{inReset}
 use Rattle.running.specs.Claims.{SameCells, Entered}
 use Rattle.running.proofs.RunLaws.{Meets}
-use Rattle.running.proofs.CycleLaws.{cycle-meets}
+use Rattle.running.proofs.CycleLaws.{entered, lined, cycle-meets}
 use Rattle.running.proofs.CycleValid.{valid-lined, valid-fetch}
 
 -- the two writes of an entry
@@ -35,9 +35,9 @@ first-word s v i l h = word-other (putWord s 4 v) 5 i 4 (λ e. omega arith) ∙ 
 second-word : (s : List ℕ) (v i : ℕ) → 5 < length s → i < 16777216 → word (putWord (putWord s 4 v) 5 i) 5 ≡ i
 second-word s v i l h = word-same (putWord s 4 v) 5 i (rw length-putWord l) ∙ mod-eq-of-lt h
 
-pub entered : (v : ℕ) (n : Machine) → v < 16777216 → Valid n → Entered v n (enter v (n .cells) (n .control))
+pub entry-made : (v : ℕ) (n : Machine) → v < 16777216 → ValidComputer n → Entered v n (entered v n)
 unfolding enter entryRecord
-entered v n l h =
+entry-made v n l h =
     record {
       number = first-word (n .cells) v _ (omega (arith, h .least)) l;
       returns = second-word (n .cells) v (n .control .ic) (omega (arith, h .least)) (h .widths .ic);
@@ -45,12 +45,13 @@ entered v n l h =
       state = record { monitor = refl; disabled = refl; pending = refl };
       cells = same-cells (n .cells) v _;
       kept = (refl, record { im = refl; pr = refl; ex = refl });
+      channel = refl;
     }
 
 abbrev pub Stored : Kind → Machine → Type 0
 Stored k m = word (m .cells) 4 ≡ kindNumber k
 
-pub cycle-stores : (m : Machine) → inReset m ≡ false → Valid m → Meets Valid Stored (cycle m)
+pub cycle-stores : (m : Machine) → inReset m ≡ false → ValidComputer m → Meets ValidComputer Stored (cycle m)
 cycle-stores m e h =
-    cycle-meets Valid Stored m (valid-fetch m (record { valid = h; running = e })) (λ f n q h. entered 0 n (omega arith) h .number)
-    (λ l. entered (lineOf (m .control) * 2) _ (omega arith) (valid-lined m h) .number)
+    cycle-meets ValidComputer Stored m (valid-fetch m e h) (λ f n q h. entry-made 0 n (omega arith) h .number)
+    (λ l. entry-made (lineOf (m .control) * 2) (lined m) (omega arith) (valid-lined m h) .number)

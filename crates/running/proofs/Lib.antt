@@ -1,6 +1,7 @@
 pub mod RunLaws
 pub mod CallLaws
 pub mod CycleLaws
+pub mod ChannelLaws
 pub mod CycleValid
 pub mod CycleIsolates
 pub mod Entries

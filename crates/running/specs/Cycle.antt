@@ -14,7 +14,7 @@ use Rattle.machine.specs.Records.{interruptNumber, returnAddress, interruptionP
 use Rattle.machine.specs.Format.{instructionFields}
 use Rattle.registers.specs.Reg.{signed}
 use Rattle.integer.specs.Sums.{sum24}
-use Rattle.definition.specs.Machine.{Machine, machine, Effect, ok, fault}
+use Rattle.definition.specs.Machine.{Computer, computer, Channel, Machine, machine, connected, Effect, ok, fault}
 use Rattle.definition.specs.Codes.{operating}
 use Rattle.running.specs.Runs.{CycleResult, instruction, entry}
 
@@ -54,9 +54,9 @@ unfoldable pub entryRecord : Control → ℕ → Control
 entryRecord c a = record { ic = a / 2 * 2; ir = c .ir; im = c .im; pending = 0; pr = c .pr; ex = c .ex; monitor = true; enabled = false; reset = c .reset }
 
 -- word(8) := number; word(10) := IC; IC := word(12): protection does not hinder the two writes
-unfoldable pub enter : ℕ → List ℕ → Control → Machine
+unfoldable pub enter : ℕ → List ℕ → Control → Computer
 enter n s c =
-    let t = putWord (putWord s (interruptNumber / 2) n) (returnAddress / 2) (c .ic) in machine t (entryRecord c (word t (interruptionProgram / 2)))
+    let t = putWord (putWord s (interruptNumber / 2) n) (returnAddress / 2) (c .ic) in computer t (entryRecord c (word t (interruptionProgram / 2)))
 
 -- ---- Fetch Instruction
 
@@ -91,38 +91,39 @@ unfoldable pub effectiveAddress : List ℕ → ℕ → ℕ → ℕ
 effectiveAddress s m a = cond (eqb (m % 2) 0) a (word s (a / 2))
 
 -- goto operation(FR(0:5)), with the address a before indirection
-unfoldable pub operate : List ℕ → Control → Instruction → ℕ → Effect
-operate s c i a =
-    cond (indirectAbsent s (i .m) a) (fault (Absent a) (machine s c)) (operating (i .code) (i .w) (effectiveAddress s (i .m) a) s c)
+unfoldable pub operate : List ℕ → Control → Channel → Instruction → ℕ → Effect Machine
+operate s c h i a =
+    cond (indirectAbsent s (i .m) a) (fault (Absent a) (machine s c h)) (operating (i .code) (i .w) (effectiveAddress s (i .m) a) (machine s c h))
 
 -- IC := IC + 2; monitor mode := PR(PK) = 1; the pending modification is used up
 unfoldable pub fetchRecord : Control → Bool → Control
 fetchRecord c p = record { ic = sum24 (c .ic) 2; ir = c .ir; im = c .im; pending = 0; pr = c .pr; ex = c .ex; monitor = p; enabled = c .enabled; reset = c .reset }
 
 -- IC := IC + 2; if not monitor mode and PR(PK) = 1 then goto Instruction Exception; ..
-unfoldable pub decode : List ℕ → Control → Effect
-decode s c =
+unfoldable pub decode : List ℕ → Control → Channel → Effect Machine
+decode s c h =
     let i = instructionFields (fetched s (c .ic)) in
-    cond (violation s c (c .ic / 2)) (fault (Jump (c .ic)) (machine s (withIC c (sum24 (c .ic) 2))))
-    (operate s (fetchRecord c (forbidden s c (c .ic / 2))) i (address s c i))
+    cond (violation s c (c .ic / 2)) (fault (Jump (c .ic)) (machine s (withIC c (sum24 (c .ic) 2)) h))
+    (operate s (fetchRecord c (forbidden s c (c .ic / 2))) h i (address s c i))
 
 -- if IC > word limit then goto Instruction Exception; and so where IC + 1 does not exist (docs/DECISIONS.md B2)
 -- The print goes on `if reset key then goto Reset System`: a panel key is no part of a cycle but a call of its own (Keys.antt, `pressingReset`).
-unfoldable pub fetch : List ℕ → Control → Effect
-fetch s c =
-    cond (absent s (c .ic)) (fault (Absent (c .ic)) (machine s c))
-    (cond (absent s (sum24 (c .ic) 1)) (fault (Absent (sum24 (c .ic) 1)) (machine s c)) (decode s c))
+unfoldable pub fetch : List ℕ → Control → Channel → Effect Machine
+fetch s c h =
+    cond (absent s (c .ic)) (fault (Absent (c .ic)) (machine s c h))
+    (cond (absent s (sum24 (c .ic) 1)) (fault (Absent (sum24 (c .ic) 1)) (machine s c h)) (decode s c h))
 
 -- ---- the cycle
 
 -- 14.6, Instruction Exception: IR(0) := 1; goto Interruption Service. By document 01 an exception heeds neither mask nor disabling, and clearing is said of a
 -- line that is taken: so it is an entry with the number 0 that leaves IR as it is, a given bit 0 too (docs/DECISIONS.md B8)
-unfoldable pub concluded : Effect → CycleResult Machine
+unfoldable pub concluded : Effect Machine → CycleResult Machine
 concluded (ok m) = instruction m
-concluded (fault f m) = entry Exception (enter 0 (m .cells) (m .control))
+concluded (fault f m) = entry Exception (connected (m .channel) (enter 0 (m .cells) (m .control)))
 
 -- Next Instruction: a line is taken, or an instruction is executed; the number stored is twice the line's position
 unfoldable pub cycle : Machine → CycleResult Machine
 cycle m =
     let p = lineOf (m .control) in
-    cond (ltb p 24) (entry (Line (p * 2)) (enter (p * 2) (m .cells) (lineCleared (m .control) p))) (concluded (fetch (m .cells) (m .control)))
+    cond (ltb p 24) (entry (Line (p * 2)) (connected (m .channel) (enter (p * 2) (m .cells) (lineCleared (m .control) p))))
+    (concluded (fetch (m .cells) (m .control) (m .channel)))

@@ -3,9 +3,11 @@ pub mod Calls
 pub mod Cycle
 pub mod Run
 pub mod Keys
+pub mod Lent
 pub mod Bridge
 pub mod Promises
 pub mod Several
 pub mod Claims
 pub mod Opened
 pub mod Table
+pub mod Peripherals

@@ -5,7 +5,7 @@ use Rattle.machine.specs.Fields.{inTask, withIC, withIR, withIM, withPending, w
 use Rattle.machine.specs.Format.{instructionFields}
 use Rattle.machine.specs.Records.{resetRecord}
 use Rattle.machine.specs.Store.{word, pair, key, putWord, putKey, byte, withByte, putByte, putLink, absent, forbids, forbidden, violation, firstWord}
-use Rattle.acceptance.specs.Accept.{sizeFits, cellFits, cellsFit, stateFits, controlFits, judgeStore, judgeMachine, judgeRun}
+use Rattle.acceptance.specs.Accept.{sizeFits, cellFits, cellsFit, stateFits, controlFits, judgeStore, judgeMachine, characterFits, charactersFit, devicesFit, judgeRun, judgeAutoload}
 use Rattle.registers.specs.Reg.{iter, until}
 use Rattle.integer.specs.Bitwise.{each, logicalAnd, logicalOr, logicalXor, cleared}
 use Rattle.integer.specs.Skip.{isHigh, isLow, isEqual, isNotEqual, bitsOne, bitsZero}
@@ -22,17 +22,18 @@ use Rattle.floating.specs.Convert.{cfEnd, cfByPlaces, cf}
 use Rattle.floating.specs.Divide.{fdStart, fdAdd, fdLoop, divideFloating, fd}
 use Rattle.floating.specs.Multiply.{fmStep, fmEnd, fmLoop, multiplyFloating, fm}
 use Rattle.floating.specs.Operands.{fetchFloating}
-use Rattle.definition.specs.Codes.{codes, lookup, executing, operating}
+use Rattle.definition.specs.Channel.{disconnected, deviceBuffer, readFrom, writeTo, fourLeft, shiftedIn, assembled}
+use Rattle.definition.specs.Codes.{codes, lookup, executing, executingDevice, operating}
 use Rattle.definition.specs.Machine.{resetSystem}
-use Rattle.definition.specs.Meaning.{meaning}
-use Rattle.definition.specs.MicroOps.{skipped, microStep, microSteps, monitorStep, monitorSteps, perform}
+use Rattle.definition.specs.Meaning.{meaning, commanded, rejection, autoloading, deviceMeaning}
+use Rattle.definition.specs.MicroOps.{skipped, microStep, microSteps, monitorStep, monitorSteps, perform, deviceStep, deviceSteps, performDevice}
 use Rattle.definition.specs.Operands.{extended}
 use Rattle.running.specs.Calls.{call}
 use Rattle.running.specs.Cycle.{bitOf, requested, firstRequest, looksAtLines, lineOf, bitAlone, lineCleared, entryRecord, enter, fetched, displacement, relative, indexed, address, indirectAbsent, effectiveAddress, operate, fetchRecord, decode, fetch, concluded, cycle}
-use Rattle.running.specs.Keys.{resetKey, startRecord, startKey, pressingReset, pressingStart}
+use Rattle.running.specs.Keys.{resetKey, startRecord, startKey, autoloadRecord, autoloadKey, pressingReset, pressingStart, pressingAutoload}
 use Rattle.running.specs.Run.{running, runMachine}
 use Rattle.running.specs.Runs.{run}
 
 unfoldable pub opened : ℕ
-unfolding inTask withIC withIR withIM withPending withPR withEX withEnabled raised flagsCleared overflowed carrySet instructionFields resetRecord word pair key putWord putKey byte withByte putByte putLink absent forbids forbidden violation firstWord sizeFits cellFits cellsFit stateFits controlFits judgeStore judgeMachine judgeRun iter until each logicalAnd logicalOr logicalXor cleared isHigh isLow isEqual isNotEqual bitsOne bitsZero sum difference sumWithCarry differenceWithCarry sum24 wmStep wmLast wm wdStep wdLoop abs24 wdSign wdCorrection wdEnd wd places leftStep arithmetic logical normalize normalized ci afLeft leftShifts normalizeOnce normalizeRound precise roundStore faSum faNegligible faAlign faByDifference addFloating fa fs cfEnd cfByPlaces cf fdStart fdAdd fdLoop divideFloating fd fmStep fmEnd fmLoop multiplyFloating fm fetchFloating codes lookup executing operating resetSystem meaning skipped microStep microSteps monitorStep monitorSteps perform extended call bitOf requested firstRequest looksAtLines lineOf bitAlone lineCleared entryRecord enter fetched displacement relative indexed address indirectAbsent effectiveAddress operate fetchRecord decode fetch concluded cycle resetKey startRecord startKey pressingReset pressingStart running runMachine run
+unfolding inTask withIC withIR withIM withPending withPR withEX withEnabled raised flagsCleared overflowed carrySet instructionFields resetRecord word pair key putWord putKey byte withByte putByte putLink absent forbids forbidden violation firstWord sizeFits cellFits cellsFit stateFits controlFits judgeStore judgeMachine characterFits charactersFit devicesFit judgeRun judgeAutoload iter until each logicalAnd logicalOr logicalXor cleared isHigh isLow isEqual isNotEqual bitsOne bitsZero sum difference sumWithCarry differenceWithCarry sum24 wmStep wmLast wm wdStep wdLoop abs24 wdSign wdCorrection wdEnd wd places leftStep arithmetic logical normalize normalized ci afLeft leftShifts normalizeOnce normalizeRound precise roundStore faSum faNegligible faAlign faByDifference addFloating fa fs cfEnd cfByPlaces cf fdStart fdAdd fdLoop divideFloating fd fmStep fmEnd fmLoop multiplyFloating fm fetchFloating disconnected deviceBuffer readFrom writeTo fourLeft shiftedIn assembled codes lookup executing executingDevice operating resetSystem meaning commanded rejection autoloading deviceMeaning skipped microStep microSteps monitorStep monitorSteps perform deviceStep deviceSteps performDevice extended call bitOf requested firstRequest looksAtLines lineOf bitAlone lineCleared entryRecord enter fetched displacement relative indexed address indirectAbsent effectiveAddress operate fetchRecord decode fetch concluded cycle resetKey startRecord startKey autoloadRecord autoloadKey pressingReset pressingStart pressingAutoload running runMachine run
 opened = 0

@@ -5,7 +5,7 @@ use mathlib.Core.Bool.{Bool}
 use mathlib.Core.List.{List}
 use Rattle.machine.specs.declared.Verdict.{Verdict}
 use Rattle.machine.specs.Fields.{raised}
-use Rattle.acceptance.specs.Accept.{judgeMachine}
+use Rattle.acceptance.specs.Accept.{judgeMachine, devicesFit, judgeRun}
 use Rattle.definition.specs.Machine.{Machine, machine}
 use Rattle.running.specs.Runs.{Ran, run}
 use Rattle.running.specs.Calls.{call, calls}
@@ -19,9 +19,17 @@ inReset m = m .control .reset
 abbrev pub judgeOf : Machine → Verdict
 judgeOf m = judgeMachine (m .cells) (m .control)
 
+-- refusal 13 does not apply
+abbrev pub devicesFitOf : Machine → Bool
+devicesFitOf m = devicesFit (m .channel .reader) (m .channel .typewriter) (m .channel .characters)
+
+-- all refusals of a run: 1 to 5 and 13
+abbrev pub judgeRunOf : ℕ → ℕ → Machine → Verdict
+judgeRunOf l b m = judgeRun (m .cells) (m .control) l b (m .channel .reader) (m .channel .typewriter) (m .channel .characters)
+
 -- the lines join IR
 abbrev pub joined : ℕ → Machine → Machine
-joined l m = machine (m .cells) (raised (m .control) l)
+joined l m = machine (m .cells) (raised (m .control) l) (m .channel)
 
 -- the cycles of a budget
 unfoldable pub running : ℕ → Machine → Ran Machine
@@ -29,8 +37,8 @@ running b m = run inReset cycle b m
 
 -- a run with the raised lines l and the budget b
 unfoldable pub runMachine : ℕ → ℕ → Machine → Ran Machine
-runMachine l b m = call inReset cycle judgeOf joined l b m
+runMachine l b m = call inReset cycle judgeOf devicesFitOf joined l b m
 
 -- runs with the budgets b ∷ bs, one after the other
 unfoldable pub runList : ℕ → ℕ → List ℕ → Machine → Ran Machine
-runList l b bs m = calls inReset cycle judgeOf joined l b bs m
+runList l b bs m = calls inReset cycle judgeOf devicesFitOf joined l b bs m

@@ -12,13 +12,18 @@ use Rattle.machine.specs.declared.Verdict.the-variants.{Accepted}
 use Rattle.machine.specs.declared.Answer.the-variants.{Ended}
 use Rattle.machine.specs.Store.{word, absent}
 use Rattle.machine.specs.Format.{instructionFields}
-use Rattle.definition.specs.Machine.{Machine, machine}
+use Rattle.definition.specs.Machine.{Computer, computer, Machine, machine}
+use Rattle.definition.specs.Channel.{lent}
 use Rattle.running.specs.Runs.{ended}
 use Rattle.running.specs.Cycle.{address}
 use Rattle.running.specs.Keys.{pressingReset, pressingStart}
 use Rattle.running.specs.Run.{runMachine}
 use Rattle.running.specs.Promises.{refusedNumber}
 use Rattle.running.specs.Opened.{opened}
+
+-- no characters, no typing space, registers zero
+abbrev alone : List ℕ → Control → Machine
+alone s c = machine s c (lent 0 0 [] [])
 
 -- in the monitor, every key forbidden
 abbrev monitor : ℕ → ℕ → ℕ → Bool → Control
@@ -33,7 +38,7 @@ task ic = keyed ic false
 
 -- one instruction in cell 7, at address 14, with W0, W1 and W2 given
 abbrev one : ℕ → ℕ → ℕ → ℕ → Machine
-one x w₀ w₁ w₂ = machine (w₀ ∷ w₁ ∷ w₂ ∷ 0 ∷ 0 ∷ 0 ∷ 0 ∷ x ∷ []) (monitor 14 0 0 false)
+one x w₀ w₁ w₂ = alone (w₀ ∷ w₁ ∷ w₂ ∷ 0 ∷ 0 ∷ 0 ∷ 0 ∷ x ∷ []) (monitor 14 0 0 false)
 
 -- W0, W1, EX and IR after it
 abbrev leaves : Machine → ℕ → ℕ → ℕ → ℕ → Type 0
@@ -100,26 +105,26 @@ ci-one = (refl, refl, refl, refl)
 
 -- IR bits 3 and 5, both masked in, enabled: word 8 is 6, bit 5 stays; word 10 is IC, and IC is word 12 without its last bit
 line-entry :
-    runMachine 1310720 5 (machine (0 ∷ 0 ∷ 0 ∷ 0 ∷ 7 ∷ 7 ∷ 9 ∷ 0 ∷ []) (monitor 14 0 1310720 true))
-    ≡ ended (Interrupted (Line 6)) (machine (0 ∷ 0 ∷ 0 ∷ 0 ∷ 6 ∷ 14 ∷ 9 ∷ 0 ∷ []) (monitor 8 262144 1310720 false)) 0 1
+    runMachine 1310720 5 (alone (0 ∷ 0 ∷ 0 ∷ 0 ∷ 7 ∷ 7 ∷ 9 ∷ 0 ∷ []) (monitor 14 0 1310720 true))
+    ≡ ended (Interrupted (Line 6)) (alone (0 ∷ 0 ∷ 0 ∷ 0 ∷ 6 ∷ 14 ∷ 9 ∷ 0 ∷ []) (monitor 8 262144 1310720 false)) 0 1
 unfolding opened
 line-entry = refl
 
 -- AL w1 5, AL w1 x1 + 3, and a code that is not assigned, from address 14
 abbrev three : Control → Machine
-three c = machine (0 ∷ 0 ∷ 0 ∷ 0 ∷ 7 ∷ 7 ∷ 14 ∷ 2949125 ∷ 2953219 ∷ 16515072 ∷ []) c
+three c = alone (0 ∷ 0 ∷ 0 ∷ 0 ∷ 7 ∷ 7 ∷ 14 ∷ 2949125 ∷ 2953219 ∷ 16515072 ∷ []) c
 
 -- two cycles of it: both instructions are executed, and the budget is spent
 two-cycles :
     runMachine 0 2 (three (monitor 14 0 0 false))
-    ≡ ended Spent (machine (0 ∷ 8 ∷ 0 ∷ 0 ∷ 7 ∷ 7 ∷ 14 ∷ 2949125 ∷ 2953219 ∷ 16515072 ∷ []) (monitor 18 0 0 false)) 2 0
+    ≡ ended Spent (alone (0 ∷ 8 ∷ 0 ∷ 0 ∷ 7 ∷ 7 ∷ 14 ∷ 2949125 ∷ 2953219 ∷ 16515072 ∷ []) (monitor 18 0 0 false)) 2 0
 unfolding opened
 two-cycles = refl
 
 -- with budget left, the third cycle is an entry, and ends the run
 three-cycles :
     runMachine 0 9 (three (monitor 14 0 0 false))
-    ≡ ended (Interrupted Exception) (machine (0 ∷ 8 ∷ 0 ∷ 0 ∷ 0 ∷ 20 ∷ 14 ∷ 2949125 ∷ 2953219 ∷ 16515072 ∷ []) (monitor 14 0 0 false)) 2 1
+    ≡ ended (Interrupted Exception) (alone (0 ∷ 8 ∷ 0 ∷ 0 ∷ 0 ∷ 20 ∷ 14 ∷ 2949125 ∷ 2953219 ∷ 16515072 ∷ []) (monitor 14 0 0 false)) 2 1
 unfolding opened
 three-cycles = refl
 
@@ -134,22 +139,22 @@ abbrev constants : ℕ → List ℕ
 constants a = 1 ∷ 2 ∷ 3 ∷ 4 ∷ 20 ∷ (50331648 + a) ∷ 25 ∷ 27 ∷ []
 
 -- reset: IC in word 10 and in no other, no pending modification, the reset state with monitor mode and interrupts disabled
-reset-key : pressingReset (constants 22) (given 16 7 5 false true false) ≡ record { machine = machine (constants 16) (given 16 0 5 true false true); verdict = Accepted }
+reset-key : pressingReset (constants 22) (given 16 7 5 false true false) ≡ record { machine = computer (constants 16) (given 16 0 5 true false true); verdict = Accepted }
 unfolding opened
 reset-key = refl
 
 -- in the reset state it changes nothing
-reset-again : pressingReset (constants 22) (given 16 7 5 true false true) ≡ record { machine = machine (constants 22) (given 16 7 5 true false true); verdict = Accepted }
+reset-again : pressingReset (constants 22) (given 16 7 5 true false true) ≡ record { machine = computer (constants 22) (given 16 7 5 true false true); verdict = Accepted }
 unfolding opened
 reset-again = refl
 
 -- start: IC from word 14 without its last bit, and the reset state is left; no cell changes
-start-key : pressingStart (constants 22) (given 16 7 5 true false true) ≡ record { machine = machine (constants 22) (given 26 7 5 true false false); verdict = Accepted }
+start-key : pressingStart (constants 22) (given 16 7 5 true false true) ≡ record { machine = computer (constants 22) (given 26 7 5 true false false); verdict = Accepted }
 unfolding opened
 start-key = refl
 
 -- outside the reset state it changes nothing
-start-elsewhere : pressingStart (constants 22) (given 16 7 5 true false false) ≡ record { machine = machine (constants 22) (given 16 7 5 true false false); verdict = Accepted }
+start-elsewhere : pressingStart (constants 22) (given 16 7 5 true false false) ≡ record { machine = computer (constants 22) (given 16 7 5 true false false); verdict = Accepted }
 unfolding opened
 start-elsewhere = refl
 
@@ -167,29 +172,29 @@ eight w₁ n a x = 0 ∷ w₁ ∷ 0 ∷ 0 ∷ n ∷ a ∷ 4 ∷ x ∷ []
 
 -- a line raised while a modification is pending: the instruction is executed first, with 4 more, then the line is taken
 line-waits :
-    runMachine 4 9 (machine (eight 0 7 7 al) (given 14 4 5 true true false)) ≡ ended (Interrupted (Line 42)) (machine (eight 9 42 16 al) (given 4 0 5 true false false)) 1 1
+    runMachine 4 9 (alone (eight 0 7 7 al) (given 14 4 5 true true false)) ≡ ended (Interrupted (Line 42)) (alone (eight 9 42 16 al) (given 4 0 5 true false false)) 1 1
 unfolding opened
 line-waits = refl
 
 -- the fetch finds an absent address: word 10 is IC itself
-fetch-absent : runMachine 0 9 (machine (eight 0 7 7 al) (task 16)) ≡ ended (Interrupted Exception) (machine (eight 0 0 16 al) (keyed 4 true)) 0 1
+fetch-absent : runMachine 0 9 (alone (eight 0 7 7 al) (task 16)) ≡ ended (Interrupted Exception) (alone (eight 0 0 16 al) (keyed 4 true)) 0 1
 unfolding opened
 fetch-absent = refl
 
 -- in task mode the fetch finds a forbidden cell: word 10 is IC + 2, and nothing is executed
 fetch-forbidden :
-    runMachine 0 9 (machine (eight 0 7 7 (117440512 + al)) (task 14)) ≡ ended (Interrupted Exception) (machine (eight 0 0 16 (117440512 + al)) (keyed 4 true)) 0 1
+    runMachine 0 9 (alone (eight 0 7 7 (117440512 + al)) (task 14)) ≡ ended (Interrupted Exception) (alone (eight 0 0 16 (117440512 + al)) (keyed 4 true)) 0 1
 unfolding opened
 fetch-forbidden = refl
 
 -- in monitor mode an instruction in an allowed cell is executed in task mode
-fetch-allowed : runMachine 0 1 (machine (eight 0 7 7 (16777216 + al)) (keyed 14 true)) ≡ ended Spent (machine (eight 5 7 7 (16777216 + al)) (task 16)) 1 0
+fetch-allowed : runMachine 0 1 (alone (eight 0 7 7 (16777216 + al)) (keyed 14 true)) ≡ ended Spent (alone (eight 5 7 7 (16777216 + al)) (task 16)) 1 0
 unfolding opened
 fetch-allowed = refl
 
 -- AL w1 with M and D given, X = 2, W2 = 2; word 10 is 33
 abbrev loads : ℕ → ℕ → ℕ → Type 0
-loads m d w₁ = word (runMachine 0 1 (machine (0 ∷ 0 ∷ 2 ∷ 0 ∷ 0 ∷ 33 ∷ 0 ∷ instructionWord 11 1 m 2 d ∷ []) (monitor 14 0 0 false)) .machine .cells) 1 ≡ w₁
+loads m d w₁ = word (runMachine 0 1 (alone (0 ∷ 0 ∷ 2 ∷ 0 ∷ 0 ∷ 33 ∷ 0 ∷ instructionWord 11 1 m 2 d ∷ []) (monitor 14 0 0 false)) .machine .cells) 1 ≡ w₁
 
 -- M chooses X + D, word(X + D), X + IC + D, word(X + IC + D); here D = 8 and -6
 address-modes : loads 0 8 10 × loads 1 8 33 × loads 2 4090 10 × loads 3 4090 33
@@ -201,12 +206,12 @@ abbrev modified : ℕ → ℕ → List ℕ
 modified w₁ w₂ = 0 ∷ w₁ ∷ w₂ ∷ 0 ∷ 0 ∷ 0 ∷ 0 ∷ instructionWord 9 0 0 0 4 ∷ al ∷ instructionWord 11 2 0 0 5 ∷ []
 
 -- AM leaves its address as the pending modification
-am-pending : runMachine 0 1 (machine (modified 0 0) (given 14 0 5 true true false)) ≡ ended Spent (machine (modified 0 0) (given 16 4 5 true true false)) 1 0
+am-pending : runMachine 0 1 (alone (modified 0 0) (given 14 0 5 true true false)) ≡ ended Spent (alone (modified 0 0) (given 16 4 5 true true false)) 1 0
 unfolding opened
 am-pending = refl
 
 -- AM changes the next displacement, and not the one after it
-am-next : runMachine 0 3 (machine (modified 0 0) (given 14 0 5 true true false)) ≡ ended Spent (machine (modified 9 5) (given 20 0 5 true true false)) 3 0
+am-next : runMachine 0 3 (alone (modified 0 0) (given 14 0 5 true true false)) ≡ ended Spent (alone (modified 9 5) (given 20 0 5 true true false)) 3 0
 unfolding opened
 am-next = refl
 
@@ -216,22 +221,22 @@ io = instructionWord 1 1 0 0 2000
 
 -- in the monitor: EX 22 one, EX 23 zero, EX 21 and W kept
 io-monitor :
-    (runMachine 0 1 (machine (eight 9 7 7 io) (given 14 0 0 true true false)) ≡ ended Spent (machine (eight 9 7 7 io) (given 16 0 2 true true false)) 1 0)
-    × (runMachine 0 1 (machine (eight 9 7 7 io) (given 14 0 5 true true false)) ≡ ended Spent (machine (eight 9 7 7 io) (given 16 0 6 true true false)) 1 0)
+    (runMachine 0 1 (alone (eight 9 7 7 io) (given 14 0 0 true true false)) ≡ ended Spent (alone (eight 9 7 7 io) (given 16 0 2 true true false)) 1 0)
+    × (runMachine 0 1 (alone (eight 9 7 7 io) (given 14 0 5 true true false)) ≡ ended Spent (alone (eight 9 7 7 io) (given 16 0 6 true true false)) 1 0)
 unfolding opened
 io-monitor = (refl, refl)
 
 -- in task mode, and in an allowed cell: an exception
 io-task :
-    (runMachine 0 9 (machine (eight 9 7 7 (16777216 + io)) (task 14)) ≡ ended (Interrupted Exception) (machine (eight 9 0 16 (16777216 + io)) (keyed 4 true)) 0 1)
-    × (runMachine 0 9 (machine (eight 9 7 7 (16777216 + io)) (keyed 14 true)) ≡ ended (Interrupted Exception) (machine (eight 9 0 16 (16777216 + io)) (keyed 4 true)) 0 1)
+    (runMachine 0 9 (alone (eight 9 7 7 (16777216 + io)) (task 14)) ≡ ended (Interrupted Exception) (alone (eight 9 0 16 (16777216 + io)) (keyed 4 true)) 0 1)
+    × (runMachine 0 9 (alone (eight 9 7 7 (16777216 + io)) (keyed 14 true)) ≡ ended (Interrupted Exception) (alone (eight 9 0 16 (16777216 + io)) (keyed 4 true)) 0 1)
 unfolding opened
 io-task = (refl, refl)
 
 -- AW w1 2000 in the monitor: word 10 is IC, already raised by 2; the reset state; one instruction executed
 aw-monitor :
-    runMachine 0 9 (machine (eight 9 7 7 (instructionWord 0 1 0 0 2000)) (given 14 0 5 true true false))
-    ≡ ended Reset (machine (eight 9 7 16 (instructionWord 0 1 0 0 2000)) (given 16 0 5 true false true)) 1 0
+    runMachine 0 9 (alone (eight 9 7 7 (instructionWord 0 1 0 0 2000)) (given 14 0 5 true true false))
+    ≡ ended Reset (alone (eight 9 7 16 (instructionWord 0 1 0 0 2000)) (given 16 0 5 true false true)) 1 0
 unfolding opened
 aw-monitor = refl
 
@@ -239,10 +244,10 @@ aw-monitor = refl
 
 -- the number of a run's refusal, 0 for none
 abbrev refusalOf : ℕ → ℕ → List ℕ → Control → ℕ
-refusalOf l b s c = refusedNumber (runMachine l b (machine s c) .answer)
+refusalOf l b s c = refusedNumber (runMachine l b (alone s c) .answer)
 
 -- 8 cells pass, 7 do not; here JL 14, which jumps to itself
-cells-8 : runMachine 0 1 (machine (0 ∷ 0 ∷ 0 ∷ 0 ∷ 0 ∷ 0 ∷ 0 ∷ 3407886 ∷ []) (monitor 14 0 0 false)) .answer ≡ Ended Spent
+cells-8 : runMachine 0 1 (alone (0 ∷ 0 ∷ 0 ∷ 0 ∷ 0 ∷ 0 ∷ 0 ∷ 3407886 ∷ []) (monitor 14 0 0 false)) .answer ≡ Ended Spent
 unfolding opened
 cells-8 = refl
 
@@ -294,7 +299,7 @@ unfolding opened
 reset-implies = (refl, refl, refl, refl)
 
 -- lines with bits 3 to 23 pass, with bit 2 they do not; here in the reset state
-lines-2097151 : runMachine 2097151 0 (machine (replicate 8 0) (given 0 0 0 true false true)) .answer ≡ Ended Reset
+lines-2097151 : runMachine 2097151 0 (alone (replicate 8 0) (given 0 0 0 true false true)) .answer ≡ Ended Reset
 unfolding opened
 lines-2097151 = refl
 
@@ -303,7 +308,7 @@ unfolding opened
 lines-2097152 = refl
 
 -- budget 65,535 passes, 65,536 does not
-budget-65535 : runMachine 0 65535 (machine (replicate 8 0) (given 0 0 0 true false true)) .answer ≡ Ended Reset
+budget-65535 : runMachine 0 65535 (alone (replicate 8 0) (given 0 0 0 true false true)) .answer ≡ Ended Reset
 unfolding opened
 budget-65535 = refl
 
@@ -315,9 +320,9 @@ budget-65536 = refl
 
 -- DS w1 to 22, with 22 allowed and 20 forbidden: word 22 changes, and an exception follows
 ds-halfway :
-    runMachine 0 9 (machine (16777221 ∷ 16777222 ∷ 0 ∷ 0 ∷ 16777216 ∷ 16777216 ∷ 16777240 ∷ 31260694 ∷ 0 ∷ 0 ∷ 117440512 ∷ 16777216 ∷ []) (task 14))
+    runMachine 0 9 (alone (16777221 ∷ 16777222 ∷ 0 ∷ 0 ∷ 16777216 ∷ 16777216 ∷ 16777240 ∷ 31260694 ∷ 0 ∷ 0 ∷ 117440512 ∷ 16777216 ∷ []) (task 14))
     ≡ ended (Interrupted Exception)
-    (machine (16777221 ∷ 16777222 ∷ 0 ∷ 0 ∷ 16777216 ∷ 16777232 ∷ 16777240 ∷ 31260694 ∷ 0 ∷ 0 ∷ 117440512 ∷ 16777222 ∷ [])
+    (alone (16777221 ∷ 16777222 ∷ 0 ∷ 0 ∷ 16777216 ∷ 16777232 ∷ 16777240 ∷ 31260694 ∷ 0 ∷ 0 ∷ 117440512 ∷ 16777222 ∷ [])
     (keyed 24 true))
     0
     1
@@ -326,12 +331,12 @@ ds-halfway = refl
 
 -- RS w0 to the register W3, whose key is forbidden: an exception
 store-to-forbidden-register :
-    runMachine 0 9 (machine (16777221 ∷ 16777222 ∷ 0 ∷ 117440512 ∷ 16777216 ∷ 16777216 ∷ 16777240 ∷ 22806534 ∷ []) (task 14)) .answer ≡ Ended (Interrupted Exception)
+    runMachine 0 9 (alone (16777221 ∷ 16777222 ∷ 0 ∷ 117440512 ∷ 16777216 ∷ 16777216 ∷ 16777240 ∷ 22806534 ∷ []) (task 14)) .answer ≡ Ended (Interrupted Exception)
 unfolding opened
 store-to-forbidden-register = refl
 
 -- the same with W3 allowed: the store is made, and the budget is spent
 store-to-allowed-register :
-    runMachine 0 1 (machine (16777221 ∷ 16777222 ∷ 0 ∷ 16777216 ∷ 16777216 ∷ 16777216 ∷ 16777240 ∷ 22806534 ∷ []) (task 14)) .answer ≡ Ended Spent
+    runMachine 0 1 (alone (16777221 ∷ 16777222 ∷ 0 ∷ 16777216 ∷ 16777216 ∷ 16777216 ∷ 16777240 ∷ 22806534 ∷ []) (task 14)) .answer ≡ Ended Spent
 unfolding opened
 store-to-allowed-register = refl

@@ -12,7 +12,7 @@ use lib.Dec.{ltb, leb, eqb}
 use Rattle.machine.specs.Answers.{refusalNumber, verdictNumber}
 use Rattle.machine.specs.declared.Control.{Control}
 use Rattle.machine.specs.declared.Refusal.{Refusal}
-use Rattle.machine.specs.declared.Refusal.the-variants.{StoreSize, CellValue, ControlField, Lines, Budget, TapeEnds, RecordKind, RecordLength, BlockPlace, BlockCell, RecordOrder, TapeLength}
+use Rattle.machine.specs.declared.Refusal.the-variants.{StoreSize, CellValue, ControlField, Lines, Budget, TapeEnds, RecordKind, RecordLength, BlockPlace, BlockCell, RecordOrder, TapeLength, Device}
 use Rattle.machine.specs.declared.Verdict.{Verdict}
 use Rattle.machine.specs.declared.Verdict.the-variants.{Accepted, Rejected}
 use Rattle.acceptance.specs.Accept.{sizeFits, cellsFit, judgeStore}
@@ -183,7 +183,7 @@ record-gives n after t =
 verdicts : List Verdict
 verdicts =
     Accepted ∷ Rejected StoreSize ∷ Rejected CellValue ∷ Rejected ControlField ∷ Rejected Lines ∷ Rejected Budget ∷ Rejected TapeEnds ∷ Rejected RecordKind
-    ∷ Rejected RecordLength ∷ Rejected BlockPlace ∷ Rejected BlockCell ∷ Rejected RecordOrder ∷ Rejected TapeLength ∷ []
+    ∷ Rejected RecordLength ∷ Rejected BlockPlace ∷ Rejected BlockCell ∷ Rejected RecordOrder ∷ Rejected TapeLength ∷ Rejected Device ∷ []
 
 told : (v : Verdict) → getD verdicts (verdictNumber v) Accepted ≡ v
 unfolding verdicts
@@ -200,6 +200,7 @@ told (Rejected BlockPlace) = refl
 told (Rejected BlockCell) = refl
 told (Rejected RecordOrder) = refl
 told (Rejected TapeLength) = refl
+told (Rejected Device) = refl
 
 same-number : (v w : Verdict) → verdictNumber v ≡ verdictNumber w → v ≡ w
 same-number v w e = sym (told v) ∙ ap (λ (k : ℕ). getD verdicts k Accepted) e ∙ told w
