@@ -5,6 +5,9 @@ use mathlib.Core.Bool.{Bool, false, cond}
 use mathlib.Core.List.{List}
 use lib.Dec.{eqb, ltb}
 use Rattle.machine.specs.declared.Control.{Control}
+use Rattle.machine.specs.declared.Devices.{Devices}
+use Rattle.machine.specs.declared.Run.{Run}
+use Rattle.machine.specs.declared.Autoloaded.{Autoloaded}
 use Rattle.machine.specs.declared.Kind.the-variants.{Exception, Line}
 use Rattle.machine.specs.declared.Outcome.{Outcome}
 use Rattle.machine.specs.declared.Outcome.the-variants.{Reset, Interrupted, Spent}
@@ -16,15 +19,16 @@ use Rattle.machine.specs.declared.Answer.{Answer}
 use Rattle.machine.specs.declared.Answer.the-variants.{Refused, Ended}
 use Rattle.machine.specs.Answers.{refusalNumber, kindNumber}
 use Rattle.acceptance.specs.Accept.{judgeStore}
-use Rattle.definition.specs.Machine.{Machine, machine}
-use Rattle.running.specs.Runs.{Ran}
-use Rattle.running.specs.Run.{runMachine}
+use Rattle.definition.specs.Machine.{Computer}
 use Rattle.running.specs.Keys.{Pressed, pressingReset, pressingStart}
+use Rattle.running.specs.Lent as Lent
+use Rattle.running.specs.Lent.{runLent, KeyReturned, autoloadLent}
 use Rattle.tape.specs.Load.{judgeThen, Loaded, loading}
 use Rattle.tape.specs.declared.Span.{Span}
 use Rattle.capi.specs.declared.ControlRecord.{ControlRecord}
 use Rattle.capi.specs.declared.RunResult.{RunResult}
 use Rattle.capi.specs.declared.StateResult.{StateResult}
+use Rattle.capi.specs.declared.AutoloadResult.{AutoloadResult}
 use Rattle.capi.specs.declared.TextResult.{TextResult}
 
 -- ---- the control record: a flag crosses as a byte
@@ -67,6 +71,15 @@ pub record Returned (R : Type 0) : Type 0 where
 abbrev pub returned : {R : Type 0} → R → List ℕ → Returned R
 returned r s = record { result = r; cells = s }
 
+-- store and typing buffer beside the struct
+pub record RunReturned : Type 0 where
+  pub result : RunResult
+  pub cells : List ℕ
+  pub typing : List ℕ
+
+abbrev pub runReturned : RunResult → List ℕ → List ℕ → RunReturned
+runReturned r s t = record { result = r; cells = s; typing = t }
+
 -- 1 spent, 2 reset, 3 interrupted by an exception, 4 interrupted by a line
 abbrev pub outcomeCode : Outcome → ℕ
 outcomeCode Spent = 1
@@ -80,35 +93,54 @@ outcomeNumber Spent = 0
 outcomeNumber Reset = 0
 outcomeNumber (Interrupted k) = kindNumber k
 
--- a refused run: outcome 0 and the refusal's number, the record r as given, counts zero
-abbrev pub refusedRun : Refusal → ControlRecord → RunResult
-refusedRun q r = record { control = r; outcome = 0; number = refusalNumber q; executed = 0; entries = 0 }
+-- a refused run: outcome 0 and the refusal's number, the record r and the device buffer registers d as given; counts, taken and typed zero
+abbrev pub refusedRun : Refusal → ControlRecord → Devices → RunResult
+refusedRun q r d = record { control = r; outcome = 0; number = refusalNumber q; executed = 0; entries = 0; devices = d; taken = 0; typed = 0 }
 
 -- a refused key or tape: the record r as given
 abbrev pub refusedState : Refusal → ControlRecord → StateResult
 refusedState q r = record { control = r; refusal = refusalNumber q }
 
--- a run's answer, counts and control record
-abbrev pub resultBy : Answer → ControlRecord → Control → ℕ → ℕ → RunResult
-resultBy (Refused q) r c d e = refusedRun q r
-resultBy (Ended o) r c d e = record { control = recordOf c; outcome = outcomeCode o; number = outcomeNumber o; executed = d; entries = e }
+-- what the run x handed back, by its answer
+abbrev pub resultBy : Answer → ControlRecord → Devices → Run → RunResult
+resultBy (Refused q) r d x = refusedRun q r d
+resultBy (Ended o) r d x =
+    record {
+      control = recordOf (x .control);
+      outcome = outcomeCode o;
+      number = outcomeNumber o;
+      executed = x .executed;
+      entries = x .entries;
+      devices = x .devices;
+      taken = x .taken;
+      typed = x .typed;
+    }
 
 abbrev pub stateBy : Verdict → ControlRecord → Control → StateResult
 stateBy (Rejected q) r c = refusedState q r
 stateBy Accepted r c = record { control = recordOf c; refusal = 0 }
 
+-- a refused autoload key: the record r and the registers d as given, none taken
+abbrev pub refusedAutoload : Refusal → ControlRecord → Devices → AutoloadResult
+refusedAutoload q r d = record { control = r; refusal = refusalNumber q; devices = d; taken = 0 }
+
+-- what the autoload key x handed back, by its verdict
+abbrev pub autoloadedBy : Verdict → ControlRecord → Devices → Autoloaded → AutoloadResult
+autoloadedBy (Rejected q) r d x = refusedAutoload q r d
+autoloadedBy Accepted r d x = record { control = recordOf (x .control); refusal = 0; devices = x .devices; taken = x .taken }
+
 -- ---- the calls
 
--- 3 for a flag byte, then the run
-abbrev pub runBy : Verdict → ControlRecord → List ℕ → Ran Machine → Returned RunResult
-runBy (Rejected q) r s x = returned (refusedRun q r) s
-runBy Accepted r s x = returned (resultBy (x .answer) r (x .machine .control) (x .executed) (x .entries)) (x .machine .cells)
+-- 3 for a flag byte, then the run; the typing buffer t is handed back beside the store
+abbrev pub runBy : Verdict → ControlRecord → Devices → List ℕ → List ℕ → Lent.Returned → RunReturned
+runBy (Rejected q) r d s t x = runReturned (refusedRun q r d) s t
+runBy Accepted r d s t x = runReturned (resultBy (x .run .answer) r d (x .run)) (x .cells) (x .typing)
 
-unfoldable pub runCall : ℕ → ℕ → List ℕ → ControlRecord → Returned RunResult
-runCall l b s r = runBy (judgeFlags s r) r s (runMachine l b (machine s (controlIn r)))
+unfoldable pub runCall : ℕ → ℕ → List ℕ → ControlRecord → Devices → List ℕ → List ℕ → RunReturned
+runCall l b s r d cs t = runBy (judgeFlags s r) r d s t (runLent l b s (controlIn r) d cs t)
 
 -- 3 for a flag byte, then the key
-abbrev pub keyBy : Verdict → ControlRecord → List ℕ → Pressed → Returned StateResult
+abbrev pub keyBy : Verdict → ControlRecord → List ℕ → Pressed Computer → Returned StateResult
 keyBy (Rejected q) r s x = returned (refusedState q r) s
 keyBy Accepted r s x = returned (stateBy (x .verdict) r (x .machine .control)) (x .machine .cells)
 
@@ -117,6 +149,13 @@ resetCall s r = keyBy (judgeFlags s r) r s (pressingReset s (controlIn r))
 
 unfoldable pub startCall : List ℕ → ControlRecord → Returned StateResult
 startCall s r = keyBy (judgeFlags s r) r s (pressingStart s (controlIn r))
+
+abbrev pub autoloadBy : Verdict → ControlRecord → Devices → List ℕ → KeyReturned → Returned AutoloadResult
+autoloadBy (Rejected q) r d s x = returned (refusedAutoload q r d) s
+autoloadBy Accepted r d s x = returned (autoloadedBy (x .key .verdict) r d (x .key)) (x .cells)
+
+unfoldable pub autoloadCall : List ℕ → ControlRecord → Devices → List ℕ → Returned AutoloadResult
+autoloadCall s r d cs = autoloadBy (judgeFlags s r) r d s (autoloadLent s (controlIn r) d cs)
 
 -- the given record is not tested (docs/DECISIONS.md E4)
 abbrev pub loadBy : ControlRecord → Loaded → Returned StateResult

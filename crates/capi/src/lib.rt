@@ -1,9 +1,11 @@
 // The C calls (host/include/rc4000.h). Enums do not cross: an outcome is two numbers, a verdict is one. A flag that comes in is a byte, which is tested; `found` only goes out.
 ghost use mathlib.Core.Path.{_≡_};
 ghost use Rattle.tape.specs.Remark.{remarkSpan};
-ghost use Rattle.capi.specs.Results.{flagByte, flagsFit, controlIn, recordOf, judgeFlags, outcomeCode, outcomeNumber, resultBy, refusedRun, stateBy, refusedState, returned, runCall, resetCall, startCall, loadCall, textOf};
+ghost use Rattle.capi.specs.Results.{flagByte, flagsFit, controlIn, recordOf, judgeFlags, outcomeCode, outcomeNumber, resultBy, refusedRun, stateBy, refusedState, autoloadedBy, refusedAutoload, returned, runReturned, runCall, resetCall, startCall, autoloadCall, loadCall, textOf};
 use machine::Answer;
+use machine::Autoloaded;
 use machine::Control;
+use machine::Devices;
 use machine::Kind;
 use machine::Outcome;
 use machine::Refusal;
@@ -32,12 +34,23 @@ pub struct RunResult {
     pub number: u32,
     pub executed: u32,
     pub entries: u32,
+    pub devices: Devices,
+    pub taken: usize,
+    pub typed: usize,
 }
 
 #[repr(C)]
 pub struct StateResult {
     pub control: ControlRecord,
     pub refusal: u32,
+}
+
+#[repr(C)]
+pub struct AutoloadResult {
+    pub control: ControlRecord,
+    pub refusal: u32,
+    pub devices: Devices,
+    pub taken: usize,
 }
 
 #[repr(C)]
@@ -144,8 +157,8 @@ fn outcome_number(o: Outcome) -> u32
     }
 }
 
-fn refused_run(q: Refusal, r: ControlRecord) -> RunResult
-    ensures { λ x. ⌜ x ≡ refusedRun q r ⌝ }
+fn refused_run(q: Refusal, r: ControlRecord, d: Devices) -> RunResult
+    ensures { λ x. ⌜ x ≡ refusedRun q r d ⌝ }
 {
     let n = q.number();
     RunResult {
@@ -154,26 +167,33 @@ fn refused_run(q: Refusal, r: ControlRecord) -> RunResult
         number: n,
         executed: 0,
         entries: 0,
+        devices: d,
+        taken: 0,
+        typed: 0,
     }
 }
 
-fn run_result(x: Run, r: ControlRecord) -> RunResult
-    ensures { λ y. ⌜ y ≡ resultBy (x .answer) r (x .control) (x .executed) (x .entries) ⌝ }
+fn run_result(x: Run, r: ControlRecord, given: Devices) -> RunResult
+    ensures { λ y. ⌜ y ≡ resultBy (x .answer) r given x ⌝ }
 {
     let a = x.answer;
     match a {
-        Answer::Refused(q) => refused_run(q, r),
+        Answer::Refused(q) => refused_run(q, r, given),
         Answer::Ended(o) => {
             let c = x.control;
             let d = ControlRecord::of(c);
             let k = outcome_code(o);
             let n = outcome_number(o);
+            let v = x.devices;
             RunResult {
                 control: d,
                 outcome: k,
                 number: n,
                 executed: x.executed,
                 entries: x.entries,
+                devices: v,
+                taken: x.taken,
+                typed: x.typed,
             }
         }
     }
@@ -212,17 +232,20 @@ pub extern "C" fn rc4000_run(
     control: ControlRecord,
     lines: u32,
     budget: u32,
+    devices: Devices,
+    characters: &[u8],
+    typing: &mut [u8],
 ) -> RunResult
-    ensures { λ r. ⌜ returned r (now (store .exit)) ≡ runCall lines budget (now (store .entry)) control ⌝ }
+    ensures { λ r. ⌜ runReturned r (now (store .exit)) (now (typing .exit)) ≡ runCall lines budget (now (store .entry)) control devices (now (characters .entry)) (now (typing .entry)) ⌝ }
 {
     let v = judge_flags(store, control);
     match v {
         Verdict::Accepted => {
             let c = control.control();
-            let x = rc4000::run(store, c, lines, budget);
-            run_result(x, control)
+            let x = rc4000::run(store, c, lines, budget, devices, characters, typing);
+            run_result(x, control, devices)
         }
-        Verdict::Rejected(q) => refused_run(q, control),
+        Verdict::Rejected(q) => refused_run(q, control, devices),
     }
 }
 
@@ -253,6 +276,58 @@ pub extern "C" fn rc4000_press_start(store: &mut [u32], control: ControlRecord) 
             state_result(x, control)
         }
         Verdict::Rejected(q) => refused_state(q, control),
+    }
+}
+
+fn refused_autoload(q: Refusal, r: ControlRecord, d: Devices) -> AutoloadResult
+    ensures { λ x. ⌜ x ≡ refusedAutoload q r d ⌝ }
+{
+    let n = q.number();
+    AutoloadResult {
+        control: r,
+        refusal: n,
+        devices: d,
+        taken: 0,
+    }
+}
+
+fn autoload_result(x: Autoloaded, r: ControlRecord, given: Devices) -> AutoloadResult
+    ensures { λ y. ⌜ y ≡ autoloadedBy (x .verdict) r given x ⌝ }
+{
+    let v = x.verdict;
+    match v {
+        Verdict::Rejected(q) => refused_autoload(q, r, given),
+        Verdict::Accepted => {
+            let c = x.control;
+            let after = ControlRecord::of(c);
+            let d = x.devices;
+            AutoloadResult {
+                control: after,
+                refusal: 0,
+                devices: d,
+                taken: x.taken,
+            }
+        }
+    }
+}
+
+#[no_mangle]
+pub extern "C" fn rc4000_press_autoload(
+    store: &mut [u32],
+    control: ControlRecord,
+    devices: Devices,
+    characters: &[u8],
+) -> AutoloadResult
+    ensures { λ r. ⌜ returned r (now (store .exit)) ≡ autoloadCall (now (store .entry)) control devices (now (characters .entry)) ⌝ }
+{
+    let v = judge_flags(store, control);
+    match v {
+        Verdict::Accepted => {
+            let c = control.control();
+            let x = rc4000::press_autoload(store, c, devices, characters);
+            autoload_result(x, control, devices)
+        }
+        Verdict::Rejected(q) => refused_autoload(q, control, devices),
     }
 }
 

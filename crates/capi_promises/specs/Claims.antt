@@ -2,45 +2,73 @@
 -- Assumes nothing.
 use Prim.Native.Nat.{ℕ}
 use mathlib.Core.Path.{_≡_}
-use mathlib.Core.Bool.{cond}
+use mathlib.Core.Bool.{Bool, cond}
 use mathlib.Core.List.{List}
 use lib.Dec.{eqb, ltb}
 use lib.ListN.{length}
-use Rattle.acceptance.specs.Accept.{sizeFits, cellsFit, controlFits}
+use Rattle.machine.specs.declared.Devices.{Devices}
+use Rattle.acceptance.specs.Accept.{sizeFits, cellsFit, controlFits, devicesFit}
 use Rattle.capi.specs.declared.ControlRecord.{ControlRecord}
 use Rattle.capi.specs.declared.RunResult.{RunResult}
 use Rattle.capi.specs.declared.StateResult.{StateResult}
-use Rattle.capi.specs.Results.{flagsFit, controlIn, Returned, runCall, resetCall, startCall, loadCall}
+use Rattle.capi.specs.declared.AutoloadResult.{AutoloadResult}
+use Rattle.capi.specs.Results.{flagsFit, controlIn, Returned, RunReturned, runCall, resetCall, startCall, autoloadCall, loadCall}
 
 -- the number of a run's refusal, 0 where the run is not refused
 abbrev pub numberOf : RunResult → ℕ
 numberOf x = cond (eqb (x .outcome) 0) (x .number) 0
 
--- the first of the numbers 1 to 5 whose condition is met, 0 for none; a flag byte over 1 is 3
-abbrev pub dueNumber : ℕ → ℕ → List ℕ → ControlRecord → ℕ
-dueNumber l b s r =
+-- refusal 13 does not apply
+abbrev pub fitsLent : Devices → List ℕ → Bool
+fitsLent d cs = devicesFit (d .reader) (d .typewriter) cs
+
+-- the first of the numbers 1 to 5 and 13 whose condition is met, 0 for none; a flag byte over 1 is 3
+abbrev pub dueNumber : ℕ → ℕ → List ℕ → ControlRecord → Devices → List ℕ → ℕ
+dueNumber l b s r d cs =
     cond (sizeFits (length s))
     (cond (cellsFit s)
     (cond (flagsFit r)
     (cond (controlFits (controlIn r))
     (cond (ltb l 2097152)
-    (cond (ltb b 65536) 0 5) 4) 3) 3) 2) 1
+    (cond (ltb b 65536)
+    (cond (fitsLent d cs) 0 13) 5) 4) 3) 3) 2) 1
 
--- `run-numbers`: a run is refused exactly under the conditions 1 to 5, in their order, for all bytes
+-- `run-numbers`: a run is refused exactly under the conditions 1 to 5 and 13, in their order, for all bytes
 abbrev pub RunNumbers : Type 0
-RunNumbers = (l b : ℕ) (s : List ℕ) (r : ControlRecord) → numberOf (runCall l b s r .result) ≡ dueNumber l b s r
+RunNumbers =
+    (l b : ℕ) (s : List ℕ) (r : ControlRecord) (d : Devices) (cs t : List ℕ) → numberOf (runCall l b s r d cs t .result) ≡ dueNumber l b s r d cs
 
--- a refused run: the control record byte for byte and every cell as they came, counts zero
-abbrev pub RunAsGiven : List ℕ → ControlRecord → Returned RunResult → Type 0
-RunAsGiven s r x =
-    x .result .outcome ≡ 0 → (x .result .control ≡ r) × (x .result .executed ≡ 0) × (x .result .entries ≡ 0) × (x .cells ≡ s)
+-- the first of the numbers 1 to 3 and 13 whose condition is met, 0 for none
+abbrev pub dueOfAutoloadCall : List ℕ → ControlRecord → Devices → List ℕ → ℕ
+dueOfAutoloadCall s r d cs =
+    cond (sizeFits (length s)) (cond (cellsFit s) (cond (flagsFit r) (cond (controlFits (controlIn r)) (cond (fitsLent d cs) 0 13) 3) 3) 2) 1
+
+-- `autoload-call-numbers`: the autoload key is refused exactly under these conditions
+abbrev pub AutoloadCallNumbers : Type 0
+AutoloadCallNumbers = (s : List ℕ) (r : ControlRecord) (d : Devices) (cs : List ℕ) → autoloadCall s r d cs .result .refusal ≡ dueOfAutoloadCall s r d cs
+
+-- a refused run: the control record byte for byte, every cell, the device buffer registers and every byte of the typing buffer as they came; counts,
+-- taken and typed zero
+abbrev pub RunAsGiven : List ℕ → ControlRecord → Devices → List ℕ → RunReturned → Type 0
+RunAsGiven s r d t x =
+    x .result .outcome ≡ 0
+    → (x .result .control ≡ r) × (x .result .executed ≡ 0) × (x .result .entries ≡ 0) × (x .cells ≡ s)
+    × (x .result .devices ≡ d) × (x .result .taken ≡ 0) × (x .result .typed ≡ 0) × (x .typing ≡ t)
 
 -- a refused key or tape: the same, with no counts
 abbrev pub StateAsGiven : List ℕ → ControlRecord → Returned StateResult → Type 0
 StateAsGiven s r x = (x .result .refusal ≡ 0 → ⊥) → (x .result .control ≡ r) × (x .cells ≡ s)
 
+-- the autoload key too, with the registers, and none taken
+abbrev pub AutoloadAsGiven : List ℕ → ControlRecord → Devices → Returned AutoloadResult → Type 0
+AutoloadAsGiven s r d x = (x .result .refusal ≡ 0 → ⊥) → (x .result .control ≡ r) × (x .cells ≡ s) × (x .result .devices ≡ d) × (x .result .taken ≡ 0)
+
 -- `refused-as-given`: a refusal changes nothing, for all bytes
 abbrev pub RefusedAsGiven : Type 0
 RefusedAsGiven =
-    (l b : ℕ) (t s : List ℕ) (r : ControlRecord)
-    → RunAsGiven s r (runCall l b s r) × StateAsGiven s r (resetCall s r) × StateAsGiven s r (startCall s r) × StateAsGiven s r (loadCall t s r)
+    (l b : ℕ) (tape s : List ℕ) (r : ControlRecord) (d : Devices) (cs t : List ℕ)
+    → RunAsGiven s r d t (runCall l b s r d cs t)
+    × StateAsGiven s r (resetCall s r)
+    × StateAsGiven s r (startCall s r)
+    × AutoloadAsGiven s r d (autoloadCall s r d cs)
+    × StateAsGiven s r (loadCall tape s r)

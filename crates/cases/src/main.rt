@@ -1,11 +1,22 @@
 // Makes the calls of the cases in the file stdin, and writes a line for each. README.md describes both files; host/cases writes them.
 use machine::Answer;
+use machine::Autoloaded;
 use machine::Control;
+use machine::Devices;
 use machine::Kind;
 use machine::Outcome;
 use machine::Run;
 use machine::State;
 use machine::Verdict;
+
+// What a case asks for, beside what it lends.
+struct Call {
+    kind: u32,
+    lines: u32,
+    budget: u32,
+    control: Control,
+    devices: Devices,
+}
 
 fn joined(b0: u8, b1: u8, b2: u8, b3: u8) -> u32 {
     b0 as u32 + 256 * (b1 as u32) + 65536 * (b2 as u32) + 16777216 * (b3 as u32)
@@ -38,6 +49,15 @@ fn read_control() -> Control {
     }
 }
 
+fn read_devices() -> Devices {
+    let reader = read_number();
+    let typewriter = read_number();
+    Devices {
+        reader: reader,
+        typewriter: typewriter,
+    }
+}
+
 fn read_cells(store: &mut [u32]) {
     let mut i: usize = 0;
     while i < store.len() {
@@ -46,7 +66,25 @@ fn read_cells(store: &mut [u32]) {
     }
 }
 
+fn read_byte() -> u8 {
+    let n = read_number();
+    (n % 256) as u8
+}
+
+fn read_bytes(bytes: &mut [u8]) {
+    let mut i: usize = 0;
+    while i < bytes.len() {
+        bytes[i] = read_byte();
+        i += 1;
+    }
+}
+
 fn print(n: u32) {
+    io::print_decimal(1, n as u64);
+    io::write_all(1, b" ");
+}
+
+fn print_count(n: usize) {
     io::print_decimal(1, n as u64);
     io::write_all(1, b" ");
 }
@@ -72,6 +110,11 @@ fn print_control(c: Control) {
     print(flags_of(c));
 }
 
+fn print_devices(d: Devices) {
+    print(d.reader);
+    print(d.typewriter);
+}
+
 fn mix(h: u64, x: u32) -> u64 {
     (h % 4294967296 * 31 + x as u64) % 4294967296
 }
@@ -86,9 +129,26 @@ fn checksum(store: &[u32]) -> u64 {
     h
 }
 
-fn print_machine(c: Control, store: &[u32]) {
+fn wide(x: u8) -> u32 {
+    x as u32
+}
+
+fn checksum_of_bytes(bytes: &[u8]) -> u64 {
+    let mut h: u64 = 0;
+    let mut i: usize = 0;
+    while i < bytes.len() {
+        h = mix(h, wide(bytes[i]));
+        i += 1;
+    }
+    h
+}
+
+fn print_machine(c: Control, d: Devices, store: &[u32], typing: &[u8]) {
     print_control(c);
+    print_devices(d);
     io::print_decimal(1, checksum(store));
+    io::write_all(1, b" ");
+    io::print_decimal(1, checksum_of_bytes(typing));
     io::write_all(1, b"\n");
 }
 
@@ -126,13 +186,16 @@ fn print_answer(a: Answer) {
     }
 }
 
-fn print_run(r: Run, store: &[u32]) {
+fn print_run(r: Run, store: &[u32], typing: &[u8]) {
     let a = r.answer;
     let c = r.control;
+    let d = r.devices;
     print_answer(a);
     print(r.executed);
     print(r.entries);
-    print_machine(c, store);
+    print_count(r.taken);
+    print_count(r.typed);
+    print_machine(c, d, store, typing);
 }
 
 fn print_verdict(v: Verdict) {
@@ -142,66 +205,129 @@ fn print_verdict(v: Verdict) {
     }
 }
 
-fn print_state(s: State, store: &[u32]) {
+fn print_state(s: State, d: Devices, store: &[u32], typing: &[u8]) {
     let v = s.verdict;
     let c = s.control;
     print_verdict(v);
-    print_machine(c, store);
+    print_machine(c, d, store, typing);
 }
 
-fn run_case(store: &mut [u32], c: Control, lines: u32, budget: u32) {
-    let r = rc4000::run(store, c, lines, budget);
-    print_run(r, store);
+fn print_autoloaded(a: Autoloaded, store: &[u32], typing: &[u8]) {
+    let v = a.verdict;
+    let c = a.control;
+    let d = a.devices;
+    print_verdict(v);
+    print_count(a.taken);
+    print_machine(c, d, store, typing);
 }
 
-fn reset_case(store: &mut [u32], c: Control) {
+fn run_case(store: &mut [u32], characters: &[u8], typing: &mut [u8], call: Call) {
+    let c = call.control;
+    let d = call.devices;
+    let r = rc4000::run(store, c, call.lines, call.budget, d, characters, typing);
+    print_run(r, store, typing);
+}
+
+fn reset_case(store: &mut [u32], typing: &[u8], call: Call) {
+    let c = call.control;
+    let d = call.devices;
     let s = rc4000::press_reset(store, c);
-    print_state(s, store);
+    print_state(s, d, store, typing);
 }
 
-fn start_case(store: &mut [u32], c: Control) {
+fn start_case(store: &mut [u32], typing: &[u8], call: Call) {
+    let c = call.control;
+    let d = call.devices;
     let s = rc4000::press_start(store, c);
-    print_state(s, store);
+    print_state(s, d, store, typing);
 }
 
-fn make_call(store: &mut [u32], kind: u32, c: Control, lines: u32, budget: u32) {
+fn autoload_case(store: &mut [u32], characters: &[u8], typing: &[u8], call: Call) {
+    let c = call.control;
+    let d = call.devices;
+    let a = rc4000::press_autoload(store, c, d, characters);
+    print_autoloaded(a, store, typing);
+}
+
+fn make_call(store: &mut [u32], characters: &[u8], typing: &mut [u8], call: Call) {
+    let kind = call.kind;
     match kind {
-        0 => run_case(store, c, lines, budget),
-        1 => reset_case(store, c),
-        _ => start_case(store, c),
+        0 => run_case(store, characters, typing, call),
+        1 => reset_case(store, typing, call),
+        2 => start_case(store, typing, call),
+        _ => autoload_case(store, characters, typing, call),
     }
 }
 
-fn read_store(store: &mut [u32], kind: u32, c: Control, lines: u32, budget: u32) {
+fn lent_case(store: &mut [u32], characters: &mut [u8], typing: &mut [u8], call: Call) {
     read_cells(store);
-    make_call(store, kind, c, lines, budget);
+    read_bytes(characters);
+    read_bytes(typing);
+    make_call(store, characters, typing, call);
 }
 
-fn sized_case(store: &mut [u32], size: usize, kind: u32, c: Control, lines: u32, budget: u32) {
+fn sized_case(
+    store: &mut [u32],
+    size: usize,
+    characters: &mut [u8],
+    count: usize,
+    typing: &mut [u8],
+    space: usize,
+    call: Call,
+) {
     if size <= store.len() {
-        read_store(&mut store[..size], kind, c, lines, budget);
+        if count <= characters.len() {
+            if space <= typing.len() {
+                lent_case(
+                    &mut store[..size],
+                    &mut characters[..count],
+                    &mut typing[..space],
+                    call,
+                );
+            }
+        }
     }
 }
 
-fn one_case(store: &mut [u32]) {
+fn one_case(store: &mut [u32], characters: &mut [u8], typing: &mut [u8]) {
     let kind = read_number();
     let size = read_number();
     let lines = read_number();
     let budget = read_number();
-    let c = read_control();
-    sized_case(store, size as usize, kind, c, lines, budget);
+    let control = read_control();
+    let devices = read_devices();
+    let count = read_number();
+    let space = read_number();
+    let call = Call {
+        kind: kind,
+        lines: lines,
+        budget: budget,
+        control: control,
+        devices: devices,
+    };
+    sized_case(
+        store,
+        size as usize,
+        characters,
+        count as usize,
+        typing,
+        space as usize,
+        call,
+    );
 }
 
-fn all_cases(store: &mut [u32], count: u32) {
+fn all_cases(store: &mut [u32], characters: &mut [u8], typing: &mut [u8], count: u32) {
     let mut i: u32 = 0;
     while i < count {
-        one_case(store);
+        one_case(store, characters, typing);
         i += 1;
     }
 }
 
 fn main() {
     let mut store = [0u32; 64];
+    let mut characters = [0u8; 40];
+    let mut typing = [0u8; 40];
     let count = read_number();
-    all_cases(&mut store, count);
+    all_cases(&mut store, &mut characters, &mut typing, count);
 }

@@ -8,18 +8,18 @@ use Rattle.machine.specs.declared.Control.{Control}
 use Rattle.machine.specs.Records.{resetRecord}
 use Rattle.machine.specs.Store.{key, absent, forbids}
 use Rattle.integer.specs.Sums.{sum24}
-use Rattle.definition.specs.Machine.{Machine, machine}
+use Rattle.definition.specs.Machine.{Channel, Machine, machine}
 use Rattle.running.specs.Runs.{CycleResult, instruction, entry}
 use Rattle.running.specs.Cycle.{fetched}
 use Rattle.row.specs.Row.{withMonitor}
 use Rattle.cycle.specs.declared.CycleEnd.{CycleEnd}
 use Rattle.cycle.specs.declared.CycleEnd.the-variants.{Executed, Reset, Entered}
 
--- a cycle's answer, with cells and control record
-abbrev pub cycleOf : CycleEnd → List ℕ → Control → CycleResult Machine
-cycleOf Executed s c = instruction (machine s c)
-cycleOf Reset s c = instruction (machine s (resetRecord c))
-cycleOf (Entered k) s c = entry k (machine s c)
+-- a cycle's answer, with cells, control record and channel
+abbrev pub cycleOf : CycleEnd → List ℕ → Control → Channel → CycleResult Machine
+cycleOf Executed s c h = instruction (machine s c h)
+cycleOf Reset s c h = instruction (machine s (resetRecord c) h)
+cycleOf (Entered k) s c h = entry k (machine s c h)
 
 -- v is the instruction at IC, with the key of its cell over it
 pub record Fetched (s : List ℕ) (ic v : ℕ) : Type 0 where

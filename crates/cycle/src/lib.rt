@@ -4,11 +4,13 @@ ghost use Prim.Native.Nat.{_+_, _*_, _/_, _%_, _<_, _≤_};
 ghost use lib.ListN.{length};
 ghost use Rattle.machine.specs.Fields.{withIC};
 ghost use Rattle.integer.specs.Sums.{sum24};
-ghost use Rattle.definition.specs.Machine.{machine};
+ghost use Rattle.definition.specs.Machine.{computer, machine};
+ghost use Rattle.channel.specs.Row.{channelAt, IsChannel};
 ghost use Rattle.running.specs.Cycle.{bitOf, requested, firstRequest, lineOf, bitAlone, lineCleared, enter, displacement, relative, indexed, address, indirectAbsent, effectiveAddress, operate, decode, fetch, cycle};
 ghost use Rattle.row.specs.Row.{controlAt, IsRow};
-ghost use Rattle.row.specs.Answers.{ending, endingOf};
+ghost use Rattle.row.specs.Answers.{ending, endingOf, endingWith};
 ghost use Rattle.cycle.specs.Steps.{cycleOf, Fetched, fetchAbsent, violates, fetchMode};
+use channel::Channel;
 use machine::Control;
 use machine::Instruction;
 use machine::Kind;
@@ -94,7 +96,7 @@ fn clear_line(k: &mut Row, p: u32)
 // An interruption is entered with its number.
 fn enter(s: &mut [u32], n: u32, k: &mut Row)
     requires { ⌜ IsRow (now k) ⌝ }
-    ensures value { λ _. ⌜ machine (now (s .exit)) (controlAt (now (k .exit))) ≡ enter n (now (s .entry)) (controlAt (now (k .entry))) ⌝ }
+    ensures value { λ _. ⌜ computer (now (s .exit)) (controlAt (now (k .exit))) ≡ enter n (now (s .entry)) (controlAt (now (k .entry))) ⌝ }
     ensures kept { λ _. ⌜ IsRow (now (k .exit)) ⌝ }
 {
     machine::put_word(s, Control::INTERRUPT_NUMBER / 2, n);
@@ -195,16 +197,25 @@ fn effective_address(s: &[u32], m: u32, a: u32) -> u32
     }
 }
 
-fn operate(s: &mut [u32], k: &mut Row, i: Instruction, a: u32) -> End
-    requires { ⌜ (a < 16777216) × IsRow (now k) ⌝ }
-    ensures value { λ r. ⌜ endingOf r (now (s .exit)) (controlAt (now (k .exit))) ≡ ending (operate (now (s .entry)) (controlAt (now (k .entry))) i a) ⌝ }
+fn operate(
+    s: &mut [u32],
+    k: &mut Row,
+    h: &mut Channel,
+    characters: &[u8],
+    typing: &mut [u8],
+    i: Instruction,
+    a: u32,
+) -> End
+    requires { ⌜ (a < 16777216) × IsRow (now k) × IsChannel (now h) (now characters) (now typing) ⌝ }
+    ensures value { λ r. ⌜ endingWith (channelAt (now (h .exit)) (now (characters .entry)) (now (typing .exit))) (endingOf r (now (s .exit)) (controlAt (now (k .exit)))) ≡ ending (operate (now (s .entry)) (controlAt (now (k .entry))) (channelAt (now (h .entry)) (now (characters .entry)) (now (typing .entry))) i a) ⌝ }
     ensures kept { λ _. ⌜ IsRow (now (k .exit)) ⌝ }
+    ensures channel { λ _. ⌜ IsChannel (now (h .exit)) (now (characters .entry)) (now (typing .exit)) ⌝ }
 {
     let sb = effective_address(s, i.m, a);
     if is_indirect_absent(s, i.m, a) {
         return End::Faulted;
     }
-    dispatch::operate(s, k, i.code, i.w, sb)
+    dispatch::operate(s, k, h, characters, typing, i.code, i.w, sb)
 }
 
 // Test Protection of the fetch from a cell with the key q; where it passes, monitor mode := PR(PK) = 1. Most fetches keep the mode.
@@ -236,10 +247,18 @@ fn raise_ic(k: &mut Row)
 }
 
 // v is the instruction at IC, with the key of its cell over it.
-fn decode(s: &mut [u32], k: &mut Row, v: u32) -> End
-    requires { ⌜ Fetched (now s) (controlAt (now k) .ic) v × IsRow (now k) ⌝ }
-    ensures value { λ r. ⌜ endingOf r (now (s .exit)) (controlAt (now (k .exit))) ≡ ending (decode (now (s .entry)) (controlAt (now (k .entry)))) ⌝ }
+fn decode(
+    s: &mut [u32],
+    k: &mut Row,
+    h: &mut Channel,
+    characters: &[u8],
+    typing: &mut [u8],
+    v: u32,
+) -> End
+    requires { ⌜ Fetched (now s) (controlAt (now k) .ic) v × IsRow (now k) × IsChannel (now h) (now characters) (now typing) ⌝ }
+    ensures value { λ r. ⌜ endingWith (channelAt (now (h .exit)) (now (characters .entry)) (now (typing .exit))) (endingOf r (now (s .exit)) (controlAt (now (k .exit)))) ≡ ending (decode (now (s .entry)) (controlAt (now (k .entry))) (channelAt (now (h .entry)) (now (characters .entry)) (now (typing .entry)))) ⌝ }
     ensures kept { λ _. ⌜ IsRow (now (k .exit)) ⌝ }
+    ensures channel { λ _. ⌜ IsChannel (now (h .exit)) (now (characters .entry)) (now (typing .exit)) ⌝ }
 {
     if is_fetch_violation(k, v / WORD) {
         raise_ic(k);
@@ -249,7 +268,7 @@ fn decode(s: &mut [u32], k: &mut Row, v: u32) -> End
     let a = address(s, k, i);
     raise_ic(k);
     row::set_pending(k, 0);
-    operate(s, k, i, a)
+    operate(s, k, h, characters, typing, i, a)
 }
 
 // IC or IC + 1 does not exist.
@@ -269,23 +288,31 @@ fn is_fetch_absent(s: &[u32], ic: u32) -> bool
 }
 
 // The instruction is read before the tests, where an absent cell reads as 0: so one comparison serves the reading and the test.
-fn fetch(s: &mut [u32], k: &mut Row) -> End
-    requires { ⌜ (controlAt (now k) .ic < 16777216) × (length (now s) ≤ 8388608) × IsRow (now k) ⌝ }
-    ensures value { λ r. ⌜ endingOf r (now (s .exit)) (controlAt (now (k .exit))) ≡ ending (fetch (now (s .entry)) (controlAt (now (k .entry)))) ⌝ }
+fn fetch(s: &mut [u32], k: &mut Row, h: &mut Channel, characters: &[u8], typing: &mut [u8]) -> End
+    requires { ⌜ (controlAt (now k) .ic < 16777216) × (length (now s) ≤ 8388608) × IsRow (now k) × IsChannel (now h) (now characters) (now typing) ⌝ }
+    ensures value { λ r. ⌜ endingWith (channelAt (now (h .exit)) (now (characters .entry)) (now (typing .exit))) (endingOf r (now (s .exit)) (controlAt (now (k .exit)))) ≡ ending (fetch (now (s .entry)) (controlAt (now (k .entry))) (channelAt (now (h .entry)) (now (characters .entry)) (now (typing .entry)))) ⌝ }
     ensures kept { λ _. ⌜ IsRow (now (k .exit)) ⌝ }
+    ensures channel { λ _. ⌜ IsChannel (now (h .exit)) (now (characters .entry)) (now (typing .exit)) ⌝ }
 {
     let ic = row::ic(k);
     let v = fetched(s, ic);
     if is_fetch_absent(s, ic) {
         return End::Faulted;
     }
-    decode(s, k, v)
+    decode(s, k, h, characters, typing, v)
 }
 
-pub fn cycle(s: &mut [u32], k: &mut Row) -> CycleEnd
-    requires { ⌜ (controlAt (now k) .ic < 16777216) × (length (now s) ≤ 8388608) × IsRow (now k) ⌝ }
-    ensures value { λ r. ⌜ cycleOf r (now (s .exit)) (controlAt (now (k .exit))) ≡ cycle (machine (now (s .entry)) (controlAt (now (k .entry)))) ⌝ }
+pub fn cycle(
+    s: &mut [u32],
+    k: &mut Row,
+    h: &mut Channel,
+    characters: &[u8],
+    typing: &mut [u8],
+) -> CycleEnd
+    requires { ⌜ (controlAt (now k) .ic < 16777216) × (length (now s) ≤ 8388608) × IsRow (now k) × IsChannel (now h) (now characters) (now typing) ⌝ }
+    ensures value { λ r. ⌜ cycleOf r (now (s .exit)) (controlAt (now (k .exit))) (channelAt (now (h .exit)) (now (characters .entry)) (now (typing .exit))) ≡ cycle (machine (now (s .entry)) (controlAt (now (k .entry))) (channelAt (now (h .entry)) (now (characters .entry)) (now (typing .entry)))) ⌝ }
     ensures kept { λ _. ⌜ IsRow (now (k .exit)) ⌝ }
+    ensures channel { λ _. ⌜ IsChannel (now (h .exit)) (now (characters .entry)) (now (typing .exit)) ⌝ }
 {
     let p = line_of(k);
     if p < 24 {
@@ -293,7 +320,7 @@ pub fn cycle(s: &mut [u32], k: &mut Row) -> CycleEnd
         enter(s, p * 2, k);
         return CycleEnd::Entered(Kind::Line(p * 2));
     }
-    let e = fetch(s, k);
+    let e = fetch(s, k, h, characters, typing);
     match e {
         End::Done => CycleEnd::Executed,
         End::Reset => CycleEnd::Reset,

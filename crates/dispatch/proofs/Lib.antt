@@ -1,1 +1,2 @@
 pub mod Unassigned
+pub mod Lifted

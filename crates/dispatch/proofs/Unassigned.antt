@@ -7,10 +7,10 @@ use mathlib.Core.List.{List, [], _∷_}
 use lib.Dec.{ltb}
 use borrow.Author.Tests.{ltb-true, ne-eqb}
 use Rattle.machine.specs.declared.Control.{Control}
-use Rattle.definition.specs.Machine.{machine}
+use Rattle.definition.specs.Machine.{Channel, machine}
 use Rattle.definition.specs.MicroOps.{perform}
 use Rattle.definition.specs.Meaning.{None, meaning}
-use Rattle.definition.specs.Codes.{Code, codes, lookup, executing, operating}
+use Rattle.definition.specs.Codes.{internal, Code, codes, lookup, executing, operating}
 use Rattle.definition.proofs.Validity.{both}
 use Rattle.row.specs.Answers.{faulted, ending}
 
@@ -31,7 +31,7 @@ unfoldable below : ℕ → List Code → Bool
 below n [] = true
 below n (x ∷ xs) = cond (ltb (x .number) n) (below n xs) false
 
-lookup-beyond : (f n : ℕ) (cs : List Code) → below n cs ≡ true → n ≤ f → lookup f cs ≡ None
+lookup-beyond : (f n : ℕ) (cs : List Code) → below n cs ≡ true → n ≤ f → lookup f cs ≡ internal None
 unfolding lookup below
 lookup-beyond f n [] e h = refl
 lookup-beyond f n (x ∷ xs) e h =
@@ -43,6 +43,6 @@ all-below : below 58 codes ≡ true
 unfolding below codes
 all-below = refl
 
-pub unassigned-code : (f w sb : ℕ) (s : List ℕ) (c : Control) → 58 ≤ f → faulted (machine s c) ≡ ending (operating f w sb s c)
+pub unassigned-code : (f w sb : ℕ) (s : List ℕ) (c : Control) (h : Channel) → 58 ≤ f → faulted (machine s c h) ≡ ending (operating f w sb (machine s c h))
 unfolding operating executing perform meaning
-unassigned-code f w sb s c h = rw (lookup-beyond f 58 codes all-below h)
+unassigned-code f w sb s c h l = rw (lookup-beyond f 58 codes all-below l)

@@ -3,20 +3,33 @@
 ghost use mathlib.Core.Path.{_≡_};
 ghost use Prim.Native.Nat.{_<_, _≤_};
 ghost use Rattle.row.specs.Row.{controlAt, IsRow};
-ghost use Rattle.row.specs.Answers.{ending, endingOf};
+ghost use Rattle.row.specs.Answers.{ending, endingOf, endingWith};
+ghost use Rattle.definition.specs.Machine.{Channel, machine};
+ghost use Rattle.channel.specs.Row.{channelAt, IsChannel};
 ghost use Rattle.definition.specs.Codes.{operating};
+use channel::Channel;
 use row::End;
 use row::Row;
 
 // The codes 0 to 31.
-fn operate_low(s: &mut [u32], k: &mut Row, f: u32, w: u32, sb: u32) -> End
-    requires { ⌜ (f < 32) × (sb < 16777216) × IsRow (now k) ⌝ }
-    ensures value { λ r. ⌜ endingOf r (now (s .exit)) (controlAt (now (k .exit))) ≡ ending (operating f w sb (now (s .entry)) (controlAt (now (k .entry)))) ⌝ }
+fn operate_low(
+    s: &mut [u32],
+    k: &mut Row,
+    h: &mut Channel,
+    characters: &[u8],
+    typing: &mut [u8],
+    f: u32,
+    w: u32,
+    sb: u32,
+) -> End
+    requires { ⌜ (f < 32) × (sb < 16777216) × IsRow (now k) × IsChannel (now h) (now characters) (now typing) ⌝ }
+    ensures value { λ r. ⌜ endingWith (channelAt (now (h .exit)) (now (characters .entry)) (now (typing .exit))) (endingOf r (now (s .exit)) (controlAt (now (k .exit)))) ≡ ending (operating f w sb (machine (now (s .entry)) (controlAt (now (k .entry))) (channelAt (now (h .entry)) (now (characters .entry)) (now (typing .entry))))) ⌝ }
     ensures kept { λ _. ⌜ IsRow (now (k .exit)) ⌝ }
+    ensures channel { λ _. ⌜ IsChannel (now (h .exit)) (now (characters .entry)) (now (typing .exit)) ⌝ }
 {
     match f {
-        0 => sequence_instructions::aw(s, k, w, sb),
-        1 => sequence_instructions::io(s, k, w, sb),
+        0 => device_instructions::aw(s, k, h, characters, typing, w, sb),
+        1 => device_instructions::io(s, k, h, characters, typing, w, sb),
         2 => transfer_instructions::bl(s, k, w, sb),
         3 => transfer_instructions::hl(s, k, w, sb),
         4 => integer_instructions::la(s, k, w, sb),
@@ -54,7 +67,7 @@ fn operate_low(s: &mut [u32], k: &mut Row, f: u32, w: u32, sb: u32) -> End
 // The codes 32 to 57; those from 58 on are not used.
 fn operate_high(s: &mut [u32], k: &mut Row, f: u32, w: u32, sb: u32) -> End
     requires { ⌜ (32 ≤ f) × (sb < 16777216) × IsRow (now k) ⌝ }
-    ensures value { λ r. ⌜ endingOf r (now (s .exit)) (controlAt (now (k .exit))) ≡ ending (operating f w sb (now (s .entry)) (controlAt (now (k .entry)))) ⌝ }
+    ensures value { λ r. ⌜ ((h : Channel) → endingWith h (endingOf r (now (s .exit)) (controlAt (now (k .exit)))) ≡ ending (operating f w sb (machine (now (s .entry)) (controlAt (now (k .entry))) h))) ⌝ }
     ensures kept { λ _. ⌜ IsRow (now (k .exit)) ⌝ }
 {
     match f {
@@ -88,13 +101,23 @@ fn operate_high(s: &mut [u32], k: &mut Row, f: u32, w: u32, sb: u32) -> End
     }
 }
 
-pub fn operate(s: &mut [u32], k: &mut Row, f: u32, w: u32, sb: u32) -> End
-    requires { ⌜ (sb < 16777216) × IsRow (now k) ⌝ }
-    ensures value { λ r. ⌜ endingOf r (now (s .exit)) (controlAt (now (k .exit))) ≡ ending (operating f w sb (now (s .entry)) (controlAt (now (k .entry)))) ⌝ }
+pub fn operate(
+    s: &mut [u32],
+    k: &mut Row,
+    h: &mut Channel,
+    characters: &[u8],
+    typing: &mut [u8],
+    f: u32,
+    w: u32,
+    sb: u32,
+) -> End
+    requires { ⌜ (sb < 16777216) × IsRow (now k) × IsChannel (now h) (now characters) (now typing) ⌝ }
+    ensures value { λ r. ⌜ endingWith (channelAt (now (h .exit)) (now (characters .entry)) (now (typing .exit))) (endingOf r (now (s .exit)) (controlAt (now (k .exit)))) ≡ ending (operating f w sb (machine (now (s .entry)) (controlAt (now (k .entry))) (channelAt (now (h .entry)) (now (characters .entry)) (now (typing .entry))))) ⌝ }
     ensures kept { λ _. ⌜ IsRow (now (k .exit)) ⌝ }
+    ensures channel { λ _. ⌜ IsChannel (now (h .exit)) (now (characters .entry)) (now (typing .exit)) ⌝ }
 {
     if f < 32 {
-        operate_low(s, k, f, w, sb)
+        operate_low(s, k, h, characters, typing, f, w, sb)
     } else {
         operate_high(s, k, f, w, sb)
     }

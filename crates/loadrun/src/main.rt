@@ -1,23 +1,31 @@
 // loadrun: a tape on standard input into 4,096 cells of zero, then 100 cycles with no lines; one line of output (document 01).
 use machine::Answer;
 use machine::Control;
+use machine::Devices;
 use machine::Outcome;
 use machine::Run;
 use machine::Verdict;
 
-// The run of the machine that the tape loads; a refused tape is a refused run.
+// The run of the machine that the tape loads, with no characters and no typing space lent; a refused tape is a refused run.
 fn load_and_run(store: &mut [u32], tape: &[u8]) -> Run {
     let given = Control::fresh();
+    let devices = Devices {
+        reader: 0,
+        typewriter: 0,
+    };
     let loaded = rc4000::load(store, given, tape);
     let c = loaded.control;
     let v = loaded.verdict;
     match v {
-        Verdict::Accepted => rc4000::run(store, c, 0, 100),
+        Verdict::Accepted => rc4000::run(store, c, 0, 100, devices, &[], &mut []),
         Verdict::Rejected(q) => Run {
             control: c,
             answer: Answer::Refused(q),
             executed: 0,
             entries: 0,
+            devices: devices,
+            taken: 0,
+            typed: 0,
         },
     }
 }

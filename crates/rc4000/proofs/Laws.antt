@@ -1,29 +1,43 @@
--- What the proof of `run` takes from the tests and from the promises. Assumes nothing.
-use Prim.Native.Nat.{ℕ, _<_}
+-- What the proofs of `run` and `press_autoload` take from the tests and from the promises. Assumes nothing.
+use Prim.Native.Nat.{ℕ, _-_, _≤_, _<_}
 use native.Mathlib.Omega.{arith}
-use native.Mathlib.Nat.{mod-eq-of-lt}
+use native.Mathlib.Nat.{mod-eq-of-lt, sub-self}
 use lib.Bits.{or-zero-r}
-use mathlib.Core.Path.{_≡_, refl, sym, subst, _∙_}
-use mathlib.Core.Bool.{cond}
-use mathlib.Core.List.{List}
+use mathlib.Core.Path.{_≡_, refl, sym, ap, subst, _∙_}
+use mathlib.Core.Bool.{Bool, true, false, cond, true≢false}
+use mathlib.Core.List.{List, []}
 use lib.Dec.{ltb}
-use borrow.Author.Tests.{ltb-true}
+use lib.ListN.{length}
+use borrow.Author.Tests.{ltb-true, le-leb, lt-leb}
 use Rattle.machine.specs.declared.Control.{Control}
+use Rattle.machine.specs.declared.Devices.{Devices}
 use Rattle.machine.specs.declared.Refusal.{Refusal}
 use Rattle.machine.specs.declared.Refusal.the-variants.{Budget, Lines}
+use Rattle.machine.specs.declared.Answer.the-variants.{Refused}
 use Rattle.machine.specs.declared.Verdict.{Verdict}
 use Rattle.machine.specs.declared.Verdict.the-variants.{Accepted, Rejected}
 use Rattle.machine.specs.Fields.{withIR, raised}
-use Rattle.acceptance.specs.Accept.{judgeMachine, judgeCall, judgeRun}
-use Rattle.definition.specs.Machine.{Machine, machine}
-use Rattle.definition.proofs.Validity.{passed, accepted-valid, valid-accepted}
-use Rattle.running.specs.Runs.{Ran, refused}
+use Rattle.machine.specs.Records.{resetRecord}
+use Rattle.acceptance.specs.Accept.{stateFits, judgeMachine, judgeCall, devicesFit, judgeRun, judgeAutoload}
+use Rattle.definition.specs.Machine.{computer, Channel, Machine, machine, Effect, ok, fault, reached}
+use Rattle.definition.specs.Channel.{lent, registersOf, fourLeft}
+use Rattle.definition.specs.MicroOps.{deviceSteps}
+use Rattle.definition.specs.Meaning.{autoloading}
+use Rattle.definition.proofs.Validity.{passed, accepted-valid, valid-accepted, Live, valid-control}
+use Rattle.definition.proofs.DeviceLaws.{fits-channel, live-devices}
+use Rattle.row.specs.declared.End.{End}
+use Rattle.row.specs.declared.End.the-variants.{Done, Reset, Faulted}
+use Rattle.row.specs.Answers.{Ending, completed, faulted, ending, endingOf, endingWith}
 use Rattle.running.specs.Cycle.{cycle}
-use Rattle.running.specs.Run.{inReset, judgeOf, joined, running, runMachine}
-use Rattle.running.specs.Promises.{KeepsProtected, Counts}
+use Rattle.running.specs.Run.{inReset, judgeOf, devicesFitOf, joined, running, runMachine}
+use Rattle.running.specs.Keys.{autoloadRecord, autoloadKey, pressingAutoload}
+use Rattle.running.specs.Lent.{machineLent, Returned, returned, handedBack, runLent, KeyReturned, keyReturned, keyHandedBack, autoloadLent}
+use Rattle.running.specs.Bridge.{ranOf}
+use Rattle.running.specs.Promises.{KeepsProtected, TouchesNoDevice, Counts}
+use Rattle.rc4000.specs.Key.{autoloaded}
 use Rattle.running.proofs.CycleValid.{valid-joined}
 use Rattle.running.proofs.CallLaws.{call-run}
-use Rattle.running.proofs.Promises.{isolation, counts-of-run, refused-run}
+use Rattle.running.proofs.Promises.{accepted-both, isolation, task-call-touches-no-device, counts-of-run, refused-run}
 
 call-passed : (v : Verdict) (l b : ℕ) → judgeCall v l b ≡ Accepted → (v ≡ Accepted) × (b < 65536)
 call-passed Accepted l b e =
@@ -31,36 +45,154 @@ call-passed Accepted l b e =
     (refl, ltb-true b 65536 (passed (ltb b 65536) Accepted Budget (lines .1) .0))
 call-passed (Rejected q) l b e = let z : _≡_ {A = ℕ} 0 1 = cc in absurd (omega arith)
 
--- what the code of a run asks: a machine that passes the tests 1 to 3, the lines joined, and a budget of 16 bits
-pub fits-a-run : (s : List ℕ) (c : Control) (l b : ℕ) → Accepted ≡ judgeRun s c l b → (judgeMachine s (raised c l) ≡ Accepted) × (b < 65536)
-unfolding judgeRun
-fits-a-run s c l b e =
-    let call = call-passed (judgeMachine s c) l b (sym e) in
-    (valid-accepted _ (valid-joined l (machine s c) (accepted-valid (machine s c) (call .0))), call .1)
+-- registers that pass test 13
+registers-fit : (d : Devices) (cs : List ℕ) → devicesFit (d .reader) (d .typewriter) cs ≡ true → (d .reader < 16777216) × (d .typewriter < 16777216)
+registers-fit d cs e = let v = fits-channel (lent (d .reader) (d .typewriter) cs []) e in (v .reader, v .typewriter)
 
-pub run-accepted : (s : List ℕ) (c : Control) (l b : ℕ) (x : Ran Machine) → Accepted ≡ judgeRun s c l b → x ≡ running b (machine s (raised c l))
-    → x ≡ runMachine l b (machine s c)
-unfolding judgeRun running runMachine
-run-accepted s c l b x e h = h ∙ sym (call-run inReset cycle judgeOf joined l b (machine s c) (sym e))
+-- what the code of a run asks: a machine that passes the tests 1 to 3, a budget of 16 bits, registers of 24
+abbrev Fits : List ℕ → Control → ℕ → Devices → Type 0
+Fits s c b d = (judgeMachine s c ≡ Accepted) × (b < 65536) × (d .reader < 16777216) × (d .typewriter < 16777216)
+
+pub fits-unraised : (s : List ℕ) (c : Control) (l b : ℕ) (d : Devices) (cs : List ℕ) → Accepted ≡ judgeRun s c l b (d .reader) (d .typewriter) cs → Fits s c b d
+unfolding judgeRun
+fits-unraised s c l b d cs e =
+    let all = accepted-both (judgeCall (judgeMachine s c) l b) (devicesFit (d .reader) (d .typewriter) cs) (sym e) in
+    let call = call-passed (judgeMachine s c) l b (all .0) in
+    let small = registers-fit d cs (all .1) in (call .0, call .1, small .0, small .1)
+
+-- the same with the lines joined
+pub fits-a-run : (s : List ℕ) (c : Control) (l b : ℕ) (d : Devices) (cs : List ℕ) → Accepted ≡ judgeRun s c l b (d .reader) (d .typewriter) cs → Fits s (raised c l) b d
+fits-a-run s c l b d cs e =
+    let fits = fits-unraised s c l b d cs e in (valid-accepted _ (valid-joined l (computer s c) (accepted-valid (computer s c) (fits .0))), fits .1, fits .2, fits .3)
+
+pub run-accepted : (s : List ℕ) (c : Control) (l b : ℕ) (d : Devices) (cs t : List ℕ) (x : Returned) → Accepted ≡ judgeRun s c l b (d .reader) (d .typewriter) cs
+    → x ≡ handedBack cs (running b (machineLent s (raised c l) d cs t)) → x ≡ runLent l b s c d cs t
+unfolding judgeRun running runMachine runLent
+run-accepted s c l b d cs t x e h = h ∙ ap (handedBack cs) (sym (call-run inReset cycle judgeOf devicesFitOf joined l b (machineLent s c d cs t) (sym e)))
 
 -- no lines
 raised-none : (c : Control) (l : ℕ) → l ≡ 0 → c .ir < 16777216 → raised c l ≡ c
 unfolding raised withIR
 raised-none c l e h = rw (e, or-zero-r, mod-eq-of-lt h)
 
-pub fits-unraised : (s : List ℕ) (c : Control) (l b : ℕ) → Accepted ≡ judgeRun s c l b → (judgeMachine s c ≡ Accepted) × (b < 65536)
-unfolding judgeRun
-fits-unraised s c l b e = call-passed (judgeMachine s c) l b (sym e)
+pub run-unraised : (s : List ℕ) (c : Control) (l b : ℕ) (d : Devices) (cs t : List ℕ) (x : Returned) → l ≡ 0 → Accepted ≡ judgeRun s c l b (d .reader) (d .typewriter) cs
+    → x ≡ handedBack cs (running b (machineLent s c d cs t)) → x ≡ runLent l b s c d cs t
+run-unraised s c l b d cs t x z e h =
+    let small = accepted-valid (computer s c) (fits-unraised s c l b d cs e .0) .widths .ir in
+    run-accepted s c l b d cs t x e (rw (raised-none c l z small) h)
 
-pub run-unraised : (s : List ℕ) (c : Control) (l b : ℕ) (x : Ran Machine) → l ≡ 0 → Accepted ≡ judgeRun s c l b → x ≡ running b (machine s c)
-    → x ≡ runMachine l b (machine s c)
-run-unraised s c l b x z e h =
-    let small = accepted-valid (machine s c) (fits-unraised s c l b e .0) .widths .ir in
-    run-accepted s c l b x e (rw (raised-none c l z small) h)
-
-pub run-rejected : (s : List ℕ) (c : Control) (l b : ℕ) (q : Refusal) → Rejected q ≡ judgeRun s c l b → refused q (machine s c) ≡ runMachine l b (machine s c)
-run-rejected s c l b q e = sym (refused-run l b (machine s c) q (sym e))
+pub run-rejected : (s : List ℕ) (c : Control) (l b : ℕ) (d : Devices) (cs t : List ℕ) (q : Refusal) → Rejected q ≡ judgeRun s c l b (d .reader) (d .typewriter) cs
+    → returned (record { control = c; answer = Refused q; executed = 0; entries = 0; devices = d; taken = 0; typed = 0 }) s t ≡ runLent l b s c d cs t
+unfolding runLent handedBack registersOf
+run-rejected s c l b d cs t q e = rw (refused-run l b (machineLent s c d cs t) q (sym e), sub-self (length cs))
 
 -- what the definition promises, of any call that meets it
-pub with-promises : (m : Machine) (l b : ℕ) (x : Ran Machine) → x ≡ runMachine l b m → (x ≡ runMachine l b m) × (KeepsProtected m x × Counts b x)
-with-promises m l b x e = (e, (subst (KeepsProtected m) (sym e) (isolation l b m), subst (Counts b) (sym e) (counts-of-run l b m)))
+abbrev Promised : List ℕ → Control → Devices → List ℕ → ℕ → Returned → Type 0
+Promised s c d t b x =
+    KeepsProtected (computer s c) (x .run .answer) (computer (x .cells) (x .run .control)) × (TouchesNoDevice c d t x × Counts b (ranOf (x .run) (x .cells)))
+
+promised : (s : List ℕ) (c : Control) (l b : ℕ) (d : Devices) (cs t : List ℕ) → Promised s c d t b (runLent l b s c d cs t)
+unfolding runLent handedBack
+promised s c l b d cs t =
+    let m = machineLent s c d cs t in
+    let counted = counts-of-run l b m in
+    (isolation l b m, (task-call-touches-no-device l b s c d cs t, record { most = counted .most; all = counted .all; entry = counted .entry }))
+
+pub with-promises : (s : List ℕ) (c : Control) (l b : ℕ) (d : Devices) (cs t : List ℕ) (x : Returned) → x ≡ runLent l b s c d cs t → (x ≡ runLent l b s c d cs t) × Promised s c d t b x
+with-promises s c l b d cs t x e = (e, subst (Promised s c d t b) (sym e) (promised s c l b d cs t))
+
+-- ---- the autoload key
+
+-- what its code asks
+pub fits-a-key : (s : List ℕ) (c : Control) (d : Devices) (cs : List ℕ) → Accepted ≡ judgeAutoload s c (d .reader) (d .typewriter) cs
+    → (judgeMachine s c ≡ Accepted) × (d .reader < 16777216) × (d .typewriter < 16777216)
+unfolding judgeAutoload
+fits-a-key s c d cs e =
+    let all = accepted-both (judgeMachine s c) (devicesFit (d .reader) (d .typewriter) cs) (sym e) in
+    let small = registers-fit d cs (all .1) in
+    (all .0, small .0, small .1)
+
+-- the row of the control registers asks for this
+pub narrow : (s : List ℕ) (c d : Control) → judgeMachine s c ≡ Accepted → d ≡ autoloadRecord c → (d .pr < 256) × (d .reset ≡ false)
+unfolding autoloadRecord
+narrow s c d e f = rw f (accepted-valid (computer s c) e .widths .high, refl)
+
+live-autoload : (s : List ℕ) (c : Control) → judgeMachine s c ≡ Accepted → Live (computer s (autoloadRecord c))
+unfolding autoloadRecord stateFits
+live-autoload s c e =
+    let h = accepted-valid (computer s c) e in
+    record { valid = valid-control (computer s c) _ (omega (arith, h .widths)) refl h; running = refl }
+
+abbrev endMachine : Ending Machine → Machine
+endMachine (completed m) = m
+endMachine (faulted m) = m
+
+end-reached : (x : Effect Machine) → endMachine (ending x) ≡ reached x
+end-reached (ok m) = refl
+end-reached (fault f m) = refl
+
+in-reset : (c : Control) → resetRecord c .reset ≡ true
+unfolding resetRecord
+in-reset c = refl
+
+-- an end outside the reset state leaves cells and row as they stand
+end-machine : (r : End) (s : List ℕ) (c : Control) (h : Channel) (x : Effect Machine) → endingWith h (endingOf r s c) ≡ ending x → reached x .control .reset ≡ false
+    → machine s c h ≡ reached x
+end-machine Done s c h x e f = ap endMachine e ∙ end-reached x
+end-machine Faulted s c h x e f = ap endMachine e ∙ end-reached x
+end-machine Reset s c h x e f = absurd (true≢false (sym (in-reset c) ∙ ap (λ m. m .control .reset) (ap endMachine e ∙ end-reached x) ∙ f))
+
+-- what Autoload Word leaves is handed back
+pub key-made : (r : End) (s t : List ℕ) (c d : Control) (h : Channel) (v : Devices) (cs ts : List ℕ) → judgeMachine s c ≡ Accepted
+    → endingWith h (endingOf r t d) ≡ ending (deviceSteps 0 (autoloading 0 cs) (machine s (autoloadRecord c) (lent (v .reader) (v .typewriter) cs ts)))
+    → keyReturned (record { control = d; verdict = Accepted; devices = registersOf h; taken = length cs - length (h .characters) }) t ≡ keyHandedBack cs (autoloaded (machineLent s c v cs ts))
+unfolding keyHandedBack
+key-made r s t c d h v cs ts a e =
+    let m = machine s (autoloadRecord c) (lent (v .reader) (v .typewriter) cs ts) in
+    ap (λ n. keyHandedBack cs (record { machine = n; verdict = Accepted }))
+    (end-machine r t d h (deviceSteps 0 (autoloading 0 cs) m) e (live-devices 0 (autoloading 0 cs) m (omega arith) (live-autoload s c a) .running))
+
+pub key-in-reset : (s : List ℕ) (c : Control) (v : Devices) (cs ts : List ℕ) (x : KeyReturned) → c .reset ≡ true → 4 ≤ length cs
+    → x ≡ keyHandedBack cs (autoloaded (machineLent s c v cs ts)) → x ≡ keyHandedBack cs (record { machine = autoloadKey (machineLent s c v cs ts); verdict = Accepted })
+unfolding autoloadKey fourLeft
+key-in-reset s c v cs ts x e l h =
+    let m = machineLent s c v cs ts in
+    let four : Bool → Machine = λ b. cond b (autoloaded m .machine) m in
+    let by : Bool → Machine = λ b. cond b (four (fourLeft cs)) m in
+    h ∙ ap (λ n. keyHandedBack cs (record { machine = n; verdict = Accepted })) (sym (ap by e ∙ ap four (le-leb 4 (length cs) l)))
+
+as-it-was : (s : List ℕ) (c : Control) (v : Devices) (cs ts : List ℕ)
+    → keyReturned (record { control = c; verdict = Accepted; devices = v; taken = 0 }) s ≡ keyHandedBack cs (record { machine = machineLent s c v cs ts; verdict = Accepted })
+unfolding keyHandedBack registersOf
+as-it-was s c v cs ts = rw (sub-self (length cs))
+
+unpressed : (s : List ℕ) (c : Control) (v : Devices) (cs ts : List ℕ) → autoloadKey (machineLent s c v cs ts) ≡ machineLent s c v cs ts
+    → keyReturned (record { control = c; verdict = Accepted; devices = v; taken = 0 }) s ≡ keyHandedBack cs (record { machine = autoloadKey (machineLent s c v cs ts); verdict = Accepted })
+unpressed s c v cs ts e = as-it-was s c v cs ts ∙ ap (λ m. keyHandedBack cs (record { machine = m; verdict = Accepted })) (sym e)
+
+same : (b : Bool) (m : Machine) → cond b m m ≡ m
+same true m = refl
+same false m = refl
+
+pub key-short : (s : List ℕ) (c : Control) (v : Devices) (cs ts : List ℕ) → length cs < 4
+    → keyReturned (record { control = c; verdict = Accepted; devices = v; taken = 0 }) s ≡ keyHandedBack cs (record { machine = autoloadKey (machineLent s c v cs ts); verdict = Accepted })
+unfolding autoloadKey fourLeft
+key-short s c v cs ts l =
+    let m = machineLent s c v cs ts in
+    unpressed s c v cs ts (ap (λ (b : Bool). cond (c .reset) (cond b (autoloaded m .machine) m) m) (lt-leb 4 (length cs) l) ∙ same (c .reset) m)
+
+pub key-elsewhere : (s : List ℕ) (c : Control) (v : Devices) (cs ts : List ℕ) → c .reset ≡ false
+    → keyReturned (record { control = c; verdict = Accepted; devices = v; taken = 0 }) s ≡ keyHandedBack cs (record { machine = autoloadKey (machineLent s c v cs ts); verdict = Accepted })
+unfolding autoloadKey
+key-elsewhere s c v cs ts e =
+    let m = machineLent s c v cs ts in unpressed s c v cs ts (ap (λ (b : Bool). cond b (cond (fourLeft cs) (autoloaded m .machine) m) m) e)
+
+pub key-accepted : (s : List ℕ) (c : Control) (d : Devices) (cs : List ℕ) (x : KeyReturned) → Accepted ≡ judgeAutoload s c (d .reader) (d .typewriter) cs
+    → x ≡ keyHandedBack cs (record { machine = autoloadKey (machineLent s c d cs []); verdict = Accepted }) → x ≡ autoloadLent s c d cs
+unfolding autoloadLent pressingAutoload
+key-accepted s c d cs x e h = rw (← e) h
+
+pub key-rejected : (s : List ℕ) (c : Control) (d : Devices) (cs : List ℕ) (q : Refusal) → Rejected q ≡ judgeAutoload s c (d .reader) (d .typewriter) cs
+    → keyReturned (record { control = c; verdict = Rejected q; devices = d; taken = 0 }) s ≡ autoloadLent s c d cs
+unfolding autoloadLent pressingAutoload keyHandedBack registersOf
+key-rejected s c d cs q e = rw (← e, sub-self (length cs))

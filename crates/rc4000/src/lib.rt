@@ -1,32 +1,49 @@
-// The public calls. None asks anything of its caller; each contract sets the result, every cell and the control record for all inputs.
+// The public calls. None asks anything of its caller; each contract sets the result and all that is lent for all inputs.
 ghost use mathlib.Core.Path.{_≡_};
 ghost use denote.Ref.{ptr};
-ghost use Rattle.definition.specs.Machine.{machine};
+ghost use mathlib.Core.Bool.{true};
+ghost use Prim.Native.Nat.{_<_};
+ghost use Rattle.machine.specs.declared.Verdict.the-variants.{Accepted};
+ghost use Rattle.acceptance.specs.Accept.{judgeMachine};
+ghost use Rattle.definition.specs.Machine.{computer};
+ghost use Rattle.definition.specs.Channel.{fourLeft};
 ghost use Rattle.running.specs.Bridge.{ranOf, pressedOf};
-ghost use Rattle.running.specs.Run.{runMachine};
-ghost use Rattle.running.specs.Keys.{resetKey, startRecord, startKey, pressingReset, pressingStart};
-ghost use Rattle.running.specs.Promises.{KeepsProtected, Counts};
+ghost use Rattle.running.specs.Lent.{machineLent, returned, runLent, keyReturned, keyHandedBack, autoloadLent};
+ghost use Rattle.running.specs.Keys.{resetKey, startRecord, startKey, pressingReset, pressingStart, autoloadRecord, autoloadKey};
+ghost use Rattle.running.specs.Promises.{KeepsProtected, TouchesNoDevice, Counts};
+ghost use Rattle.rc4000.specs.Key.{autoloaded};
 ghost use Rattle.tape.specs.Load.{loading};
 ghost use Rattle.tape.specs.Remark.{remarkSpan, remarkText, placeFrom};
 use machine::Answer;
+use machine::Autoloaded;
 use machine::Control;
+use machine::Devices;
 use machine::Run;
 use machine::State;
 use machine::Verdict;
 
-// A run with raised lines and a budget of cycles.
-pub fn run(store: &mut [u32], control: Control, lines: u32, budget: u32) -> Run
-    ensures exact { λ r. ⌜ ranOf r (now (store .exit)) ≡ runMachine lines budget (machine (now (store .entry)) control) ⌝ }
-    ensures isolated { λ r. ⌜ KeepsProtected (machine (now (store .entry)) control) (ranOf r (now (store .exit))) ⌝ }
+// A run with raised lines and a budget of cycles, the device buffer registers, the reader's characters and a buffer for typed bytes.
+pub fn run(
+    store: &mut [u32],
+    control: Control,
+    lines: u32,
+    budget: u32,
+    devices: Devices,
+    characters: &[u8],
+    typing: &mut [u8],
+) -> Run
+    ensures exact { λ r. ⌜ returned r (now (store .exit)) (now (typing .exit)) ≡ runLent lines budget (now (store .entry)) control devices (now (characters .entry)) (now (typing .entry)) ⌝ }
+    ensures isolated { λ r. ⌜ KeepsProtected (computer (now (store .entry)) control) (r .answer) (computer (now (store .exit)) (r .control)) ⌝ }
+    ensures untouched { λ r. ⌜ TouchesNoDevice control devices (now (typing .entry)) (returned r (now (store .exit)) (now (typing .exit))) ⌝ }
     ensures counts { λ r. ⌜ Counts budget (ranOf r (now (store .exit))) ⌝ }
 {
-    let v = acceptance::judge_run(store, control, lines, budget);
+    let v = acceptance::judge_run(store, control, lines, budget, devices, characters);
     match v {
         Verdict::Accepted => {
             if lines == 0 {
-                runner::run(store, control, budget)
+                runner::run(store, control, budget, devices, characters, typing)
             } else {
-                runner::run_raised(store, control, lines, budget)
+                runner::run_raised(store, control, lines, budget, devices, characters, typing)
             }
         }
         Verdict::Rejected(q) => Run {
@@ -34,13 +51,16 @@ pub fn run(store: &mut [u32], control: Control, lines: u32, budget: u32) -> Run
             answer: Answer::Refused(q),
             executed: 0,
             entries: 0,
+            devices: devices,
+            taken: 0,
+            typed: 0,
         },
     }
 }
 
 // Reset System, outside the reset state.
 fn reset_key(store: &mut [u32], c: Control) -> Control
-    ensures { λ r. ⌜ machine (now (store .exit)) r ≡ resetKey (now (store .entry)) c ⌝ }
+    ensures { λ r. ⌜ computer (now (store .exit)) r ≡ resetKey (now (store .entry)) c ⌝ }
 {
     if c.reset {
         return c;
@@ -86,7 +106,7 @@ fn start_record(c: Control, a: u32) -> Control
 }
 
 fn start_key(store: &mut [u32], c: Control) -> Control
-    ensures { λ r. ⌜ machine (now (store .exit)) r ≡ startKey (now (store .entry)) c ⌝ }
+    ensures { λ r. ⌜ computer (now (store .exit)) r ≡ startKey (now (store .entry)) c ⌝ }
 {
     if c.reset {
         let a = machine::word_at(store, Control::START_ADDRESS / 2);
@@ -111,6 +131,93 @@ pub fn press_start(store: &mut [u32], control: Control) -> State
         Verdict::Rejected(q) => State {
             control: control,
             verdict: Verdict::Rejected(q),
+        },
+    }
+}
+
+// The record with which Autoload Word is begun: IC := 0, and the reset state is left.
+fn autoload_record(c: Control) -> Control
+    ensures { λ r. ⌜ r ≡ autoloadRecord c ⌝ }
+{
+    Control {
+        ic: 0,
+        ir: c.ir,
+        im: c.im,
+        pending: c.pending,
+        pr: c.pr,
+        ex: c.ex,
+        monitor: c.monitor,
+        enabled: c.enabled,
+        reset: false,
+    }
+}
+
+// IC := SB := 0; goto Autoload Word.
+fn autoload(
+    store: &mut [u32],
+    c: Control,
+    devices: Devices,
+    characters: &[u8],
+    typing: &[u8],
+) -> Autoloaded
+    requires { ⌜ (judgeMachine (now store) c ≡ Accepted) × (devices .reader < 16777216) × (devices .typewriter < 16777216) × (fourLeft (now characters) ≡ true) ⌝ }
+    ensures { λ r. ⌜ keyReturned r (now (store .exit)) ≡ keyHandedBack (now (characters .entry)) (autoloaded (machineLent (now (store .entry)) c devices (now (characters .entry)) (now (typing .entry)))) ⌝ }
+{
+    let d = autoload_record(c);
+    let mut k = row::row_of(d);
+    let mut h = channel::channel_of(devices, characters, typing);
+    let e = device_instructions::autoload(store, &mut k, &mut h, characters, typing, 0);
+    let a = row::control_of(&k);
+    let v = channel::devices_of(&h, characters, typing);
+    let n = channel::taken(&h, characters, typing);
+    Autoloaded {
+        control: a,
+        verdict: Verdict::Accepted,
+        devices: v,
+        taken: n,
+    }
+}
+
+fn autoload_key(
+    store: &mut [u32],
+    c: Control,
+    devices: Devices,
+    characters: &[u8],
+    typing: &[u8],
+) -> Autoloaded
+    requires { ⌜ (judgeMachine (now store) c ≡ Accepted) × (devices .reader < 16777216) × (devices .typewriter < 16777216) ⌝ }
+    ensures { λ r. ⌜ keyReturned r (now (store .exit)) ≡ keyHandedBack (now (characters .entry)) (record { machine = autoloadKey (machineLent (now (store .entry)) c devices (now (characters .entry)) (now (typing .entry))); verdict = Accepted }) ⌝ }
+{
+    if c.reset {
+        if characters.len() >= 4 {
+            return autoload(store, c, devices, characters, typing);
+        }
+    }
+    Autoloaded {
+        control: c,
+        verdict: Verdict::Accepted,
+        devices: devices,
+        taken: 0,
+    }
+}
+
+// The autoload key: in the reset state a word of four characters goes into W0, and is executed next.
+pub fn press_autoload(
+    store: &mut [u32],
+    control: Control,
+    devices: Devices,
+    characters: &[u8],
+) -> Autoloaded
+    ensures { λ r. ⌜ keyReturned r (now (store .exit)) ≡ autoloadLent (now (store .entry)) control devices (now (characters .entry)) ⌝ }
+{
+    let v = acceptance::judge_autoload(store, control, devices, characters);
+    match v {
+        Verdict::Accepted => autoload_key(store, control, devices, characters, &[]),
+        Verdict::Rejected(q) => Autoloaded {
+            control: control,
+            verdict: Verdict::Rejected(q),
+            devices: devices,
+            taken: 0,
         },
     }
 }

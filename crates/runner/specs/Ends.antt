@@ -1,17 +1,19 @@
 -- For the functions inside the crate. Whether a run goes on after a cycle, and what it hands back where it does not (document 01, "A run"): an entry ends it interrupted, the reset state reset.
 -- Assumes nothing.
-use Prim.Native.Nat.{ℕ, _+_}
+use Prim.Native.Nat.{ℕ, _+_, _-_}
 use mathlib.Core.Bool.{Bool, true, false}
 use mathlib.Core.List.{List}
+use lib.ListN.{length}
 use Rattle.machine.specs.declared.Control.{Control}
+use Rattle.machine.specs.declared.Devices.{Devices}
 use Rattle.machine.specs.declared.Outcome.the-variants.{Reset, Interrupted, Spent}
 use Rattle.machine.specs.declared.Answer.{Answer}
 use Rattle.machine.specs.declared.Answer.the-variants.{Refused, Ended}
 use Rattle.machine.specs.declared.Run.{Run}
 use Rattle.machine.specs.Records.{resetRecord}
-use Rattle.definition.specs.Machine.{Machine}
+use Rattle.definition.specs.Machine.{Channel, Machine, machine}
+use Rattle.definition.specs.Channel.{registersOf}
 use Rattle.running.specs.Runs.{Ran}
-use Rattle.running.specs.Bridge.{ranOf}
 use Rattle.cycle.specs.declared.CycleEnd.{CycleEnd}
 use Rattle.cycle.specs.declared.CycleEnd.the-variants as cycleEnd
 use Rattle.runner.specs.declared.RunEnd.{RunEnd}
@@ -34,13 +36,23 @@ controlAfter (Ended Reset) c = resetRecord c
 controlAfter (Ended (Interrupted k)) c = c
 controlAfter (Ended Spent) c = c
 
-unfoldable pub runOf : RunEnd → Control → Run
-runOf r c = record { control = controlAfter (r .answer) c; answer = r .answer; executed = r .executed; entries = r .entries }
+-- what is handed back of the run, the characters cs having been lent
+unfoldable pub runOf : List ℕ → RunEnd → Control → Channel → Run
+runOf cs r c h =
+    record {
+      control = controlAfter (r .answer) c;
+      answer = r .answer;
+      executed = r .executed;
+      entries = r .entries;
+      devices = registersOf h;
+      taken = length cs - length (h .characters);
+      typed = length (h .typed);
+    }
 
--- how the cycles ended, with cells and control record
-abbrev pub runEndOf : RunEnd → List ℕ → Control → Ran Machine
-runEndOf r s c = ranOf (runOf r c) s
+-- how the cycles ended, with cells, control record and channel
+abbrev pub runEndOf : RunEnd → List ℕ → Control → Channel → Ran Machine
+runEndOf r s c h = record { machine = machine s (controlAfter (r .answer) c) h; answer = r .answer; executed = r .executed; entries = r .entries }
 
 -- a run begun in the reset state: no cycle is made
-abbrev pub begunInReset : Control → Run
-begunInReset c = record { control = c; answer = Ended Reset; executed = 0; entries = 0 }
+abbrev pub begunInReset : Control → Devices → Run
+begunInReset c d = record { control = c; answer = Ended Reset; executed = 0; entries = 0; devices = d; taken = 0; typed = 0 }

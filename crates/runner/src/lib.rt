@@ -5,13 +5,16 @@ ghost use Rattle.machine.specs.declared.Verdict.the-variants.{Accepted};
 ghost use Rattle.machine.specs.Fields.{raised};
 ghost use Rattle.acceptance.specs.Accept.{judgeMachine};
 ghost use Rattle.definition.specs.Machine.{machine};
-ghost use Rattle.running.specs.Bridge.{ranOf};
+ghost use Rattle.running.specs.Lent.{machineLent, returned, handedBack};
+ghost use Rattle.channel.specs.Row.{channelAt, IsChannel};
 ghost use Rattle.running.specs.Run.{running};
 ghost use Rattle.row.specs.Row.{controlAt, IsRow};
 ghost use Rattle.runner.specs.Ends.{goesOn, stopped, runEndOf, controlAfter, runOf, begunInReset};
+use channel::Channel;
 use cycle::CycleEnd;
 use machine::Answer;
 use machine::Control;
+use machine::Devices;
 use machine::Outcome;
 use machine::Run;
 use row::Row;
@@ -59,9 +62,17 @@ fn stop(e: CycleEnd, n: u32) -> RunEnd
 }
 
 // The first branch is never taken: its test tells the compiler that the registers' cells are there, so that no cycle tests it.
-fn cycles(s: &mut [u32], k: &mut Row, budget: u32) -> RunEnd
-    requires { ⌜ (judgeMachine (now s) (controlAt (now k)) ≡ Accepted) × (budget < 65536) × IsRow (now k) ⌝ }
-    ensures { λ r. ⌜ runEndOf r (now (s .exit)) (controlAt (now (k .exit))) ≡ running budget (machine (now (s .entry)) (controlAt (now (k .entry)))) ⌝ }
+fn cycles(
+    s: &mut [u32],
+    k: &mut Row,
+    budget: u32,
+    h: &mut Channel,
+    characters: &[u8],
+    typing: &mut [u8],
+) -> RunEnd
+    requires { ⌜ (judgeMachine (now s) (controlAt (now k)) ≡ Accepted) × (budget < 65536) × IsRow (now k) × IsChannel (now h) (now characters) (now typing) ⌝ }
+    ensures value { λ r. ⌜ runEndOf r (now (s .exit)) (controlAt (now (k .exit))) (channelAt (now (h .exit)) (now (characters .entry)) (now (typing .exit))) ≡ running budget (machine (now (s .entry)) (controlAt (now (k .entry))) (channelAt (now (h .entry)) (now (characters .entry)) (now (typing .entry)))) ⌝ }
+    ensures channel { λ _. ⌜ IsChannel (now (h .exit)) (now (characters .entry)) (now (typing .exit)) ⌝ }
 {
     if s.len() < 8 {
         return RunEnd {
@@ -72,7 +83,7 @@ fn cycles(s: &mut [u32], k: &mut Row, budget: u32) -> RunEnd
     }
     let mut left = budget;
     while left > 0 {
-        let e = cycle::cycle(s, k);
+        let e = cycle::cycle(s, k, h, characters, typing);
         if goes_on(e) {
             left -= 1;
         } else {
@@ -100,55 +111,82 @@ fn control_after(a: Answer, c: Control) -> Control
     }
 }
 
-fn finished(e: RunEnd, k: &Row) -> Run
-    ensures { λ r. ⌜ r ≡ runOf e (controlAt (now (k .entry))) ⌝ }
+fn finished(e: RunEnd, k: &Row, h: &Channel, characters: &[u8], typing: &[u8]) -> Run
+    requires { ⌜ IsChannel (now h) (now characters) (now typing) ⌝ }
+    ensures { λ r. ⌜ r ≡ runOf (now (characters .entry)) e (controlAt (now (k .entry))) (channelAt (now (h .entry)) (now (characters .entry)) (now (typing .entry))) ⌝ }
 {
     let a = e.answer;
     let c = row::control_of(k);
     let d = control_after(a, c);
+    let v = channel::devices_of(h, characters, typing);
+    let n = channel::taken(h, characters, typing);
+    let t = channel::typed(h, characters, typing);
     Run {
         control: d,
         answer: a,
         executed: e.executed,
         entries: e.entries,
+        devices: v,
+        taken: n,
+        typed: t,
     }
 }
 
 // A run begun in the reset state.
-fn in_reset(c: Control) -> Run
-    ensures { λ r. ⌜ r ≡ begunInReset c ⌝ }
+fn in_reset(c: Control, d: Devices) -> Run
+    ensures { λ r. ⌜ r ≡ begunInReset c d ⌝ }
 {
     Run {
         control: c,
         answer: Answer::Ended(Outcome::Reset),
         executed: 0,
         entries: 0,
+        devices: d,
+        taken: 0,
+        typed: 0,
     }
 }
 
-pub fn run(s: &mut [u32], c: Control, budget: u32) -> Run
-    requires { ⌜ (judgeMachine (now s) c ≡ Accepted) × (budget < 65536) ⌝ }
-    ensures { λ r. ⌜ ranOf r (now (s .exit)) ≡ running budget (machine (now (s .entry)) c) ⌝ }
+pub fn run(
+    s: &mut [u32],
+    c: Control,
+    budget: u32,
+    d: Devices,
+    characters: &[u8],
+    typing: &mut [u8],
+) -> Run
+    requires { ⌜ (judgeMachine (now s) c ≡ Accepted) × (budget < 65536) × (d .reader < 16777216) × (d .typewriter < 16777216) ⌝ }
+    ensures { λ r. ⌜ returned r (now (s .exit)) (now (typing .exit)) ≡ handedBack (now (characters .entry)) (running budget (machineLent (now (s .entry)) c d (now (characters .entry)) (now (typing .entry)))) ⌝ }
 {
     if c.reset {
-        return in_reset(c);
+        return in_reset(c, d);
     }
     let mut k = row::row_of(c);
-    let e = cycles(s, &mut k, budget);
-    finished(e, &k)
+    let mut h = channel::channel_of(d, characters, typing);
+    let e = cycles(s, &mut k, budget, &mut h, characters, typing);
+    finished(e, &k, &h, characters, typing)
 }
 
 // A run whose lines join first. It repeats `run` so that `cycles` has two call sites: with one alone the compiler would put the loop into its
 // caller and the row into registers, which do not hold it (docs/PERFORMANCE.md).
-pub fn run_raised(s: &mut [u32], c: Control, lines: u32, budget: u32) -> Run
-    requires { ⌜ (judgeMachine (now s) (raised c lines) ≡ Accepted) × (budget < 65536) ⌝ }
-    ensures { λ r. ⌜ ranOf r (now (s .exit)) ≡ running budget (machine (now (s .entry)) (raised c lines)) ⌝ }
+pub fn run_raised(
+    s: &mut [u32],
+    c: Control,
+    lines: u32,
+    budget: u32,
+    d: Devices,
+    characters: &[u8],
+    typing: &mut [u8],
+) -> Run
+    requires { ⌜ (judgeMachine (now s) (raised c lines) ≡ Accepted) × (budget < 65536) × (d .reader < 16777216) × (d .typewriter < 16777216) ⌝ }
+    ensures { λ r. ⌜ returned r (now (s .exit)) (now (typing .exit)) ≡ handedBack (now (characters .entry)) (running budget (machineLent (now (s .entry)) (raised c lines) d (now (characters .entry)) (now (typing .entry)))) ⌝ }
 {
-    let d = machine::raise(c, lines);
-    if d.reset {
-        return in_reset(d);
+    let n = machine::raise(c, lines);
+    if n.reset {
+        return in_reset(n, d);
     }
-    let mut k = row::row_of(d);
-    let e = cycles(s, &mut k, budget);
-    finished(e, &k)
+    let mut k = row::row_of(n);
+    let mut h = channel::channel_of(d, characters, typing);
+    let e = cycles(s, &mut k, budget, &mut h, characters, typing);
+    finished(e, &k, &h, characters, typing)
 }

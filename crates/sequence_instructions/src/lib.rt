@@ -4,7 +4,7 @@ ghost use Prim.Native.Nat.{_<_};
 ghost use Rattle.row.specs.Row.{controlAt, IsRow};
 ghost use Rattle.row.specs.Answers.{ending, endingOf};
 ghost use Rattle.definition.specs.Codes.{executing};
-ghost use Rattle.definition.specs.Meaning.{JL, SH, SL, SE, SN, SO, SZ, SX, SP, JE, JD, IC, IS, ML, MS, XL, XS, PL, PS, KL, KS, IO, AW};
+ghost use Rattle.definition.specs.Meaning.{JL, SH, SL, SE, SN, SO, SZ, SX, SP, JE, JD, IC, IS, ML, MS, XL, XS, PL, PS, KL, KS};
 ghost use Rattle.definition.specs.MicroOps.{skipped};
 use machine::BIT_0;
 use machine::Control;
@@ -339,32 +339,4 @@ pub fn ks(s: &mut [u32], k: &mut Row, w: u32, sb: u32) -> End
     let x = machine::word_at(s, w);
     machine::put_key(s, sb / 2, x);
     End::Done
-}
-
-// Input/Output: every device is disconnected.
-pub fn io(s: &mut [u32], k: &mut Row, w: u32, sb: u32) -> End
-    requires { ⌜ IsRow (now k) ⌝ }
-    ensures value { λ r. ⌜ endingOf r (now (s .exit)) (controlAt (now (k .exit))) ≡ ending (executing IO w sb (now (s .entry)) (controlAt (now (k .entry)))) ⌝ }
-    ensures kept { λ _. ⌜ IsRow (now (k .exit)) ⌝ }
-{
-    if row::is_task(k) {
-        return End::Faulted;
-    }
-    let x = row::ex(k);
-    row::set_ex(k, x / 4 * 4 + 2);
-    End::Done
-}
-
-// Autoload Word: device 0 is disconnected, so the system is reset.
-pub fn aw(s: &mut [u32], k: &mut Row, w: u32, sb: u32) -> End
-    requires { ⌜ IsRow (now k) ⌝ }
-    ensures value { λ r. ⌜ endingOf r (now (s .exit)) (controlAt (now (k .exit))) ≡ ending (executing AW w sb (now (s .entry)) (controlAt (now (k .entry)))) ⌝ }
-    ensures kept { λ _. ⌜ IsRow (now (k .exit)) ⌝ }
-{
-    if row::is_task(k) {
-        return End::Faulted;
-    }
-    let n = row::ic(k);
-    machine::put_word(s, Control::RETURN_ADDRESS / 2, n);
-    End::Reset
 }

@@ -29,10 +29,13 @@ same-length c = search needs
 
 returns : tie.Need-returns
 unfolding runCall
-returns c = rw (← (c .before .before .before .before .before .before .before .before .judge-flags .ensures), c .before .before .before .before .before .before .enum-told .given .1, ← (c .before .before .before .before .before .control .ensures), ← (c .before .before .before .run .ensures .0), ← (c .run-result .ensures))
+returns c = rw (← (c .before .before .before .before .before .before .before .before .before .before .before .judge-flags .ensures), c .before .before .before .before .before .before .before .before .before .enum-told .given .1, ← (c .before .before .before .before .before .before .before .before .control .ensures), ← (c .before .before .before .before .before .run .ensures .0), ← (c .run-result .ensures))
 
 same-length-2 : tie.Need-same-length-2
 same-length-2 c = search needs
+
+same-length-3 : tie.Need-same-length-3
+same-length-3 c = search needs
 
 returns-2 : tie.Need-returns-2
 unfolding runCall
@@ -50,6 +53,7 @@ rc4000-run-spec =
     enum-known-v
     refused-run-requires
     same-length
-    returns
     same-length-2
+    returns
+    same-length-3
     returns-2)

@@ -24,7 +24,7 @@ returns : tie.Need-returns
 returns c = rw (c .before .before .a .given .1, ← (c .refused-run .ensures))
 
 returns-2 : tie.Need-returns-2
-returns-2 c = rw (c .before .before .before .before .before .a2 .given .1, ← (c .before .before .of .ensures), ← (c .before .outcome-code .ensures), ← (c .outcome-number .ensures))
+returns-2 c = rw (c .before .before .before .before .before .before .a2 .given .1, ← (c .before .before .before .of .ensures), ← (c .before .before .outcome-code .ensures), ← (c .before .outcome-number .ensures))
 
 pub run-result-spec : {M : Type 1} → statement M
 run-result-spec =

@@ -6,10 +6,11 @@ use Rattle.cases.proofs.all_cases.Statement.{statement}
 use Rattle.cases.proofs.all_cases.Tie as tie
 
 abbrev Inv-loop : tie.InvT-loop
-Inv-loop store₀ count i₀ store i = (i ≤ count) × (length store ≡ length store₀)
+Inv-loop store₀ characters₀ typing₀ count i₀ store characters typing i =
+    (i ≤ count) × (length store ≡ length store₀) × (length characters ≡ length characters₀) × (length typing ≡ length typing₀)
 
 abbrev μ-loop : tie.MeasureT-loop
-μ-loop store₀ count i₀ store i = count - i
+μ-loop store₀ characters₀ typing₀ count i₀ store characters typing i = count - i
 
 loop-holds : tie.Need-loop-holds Inv-loop μ-loop
 loop-holds c = search needs
@@ -29,6 +30,12 @@ loop-again c = search needs
 same-length : tie.Need-same-length Inv-loop μ-loop
 same-length c = search needs
 
+same-length-2 : tie.Need-same-length-2 Inv-loop μ-loop
+same-length-2 c = search needs
+
+same-length-3 : tie.Need-same-length-3 Inv-loop μ-loop
+same-length-3 c = search needs
+
 returns : tie.Need-returns Inv-loop μ-loop
 returns c = search needs
 
@@ -44,4 +51,6 @@ all-cases-spec =
     loop-less
     loop-again
     same-length
+    same-length-2
+    same-length-3
     returns)

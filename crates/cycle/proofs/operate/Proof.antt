@@ -14,7 +14,7 @@ same-length c = search needs
 
 returns : tie.Need-returns
 unfolding operate
-returns c = (rw (← (c .before .before .before .effective-address .ensures .0), ← (c .before .is-indirect-absent .ensures), c .if1 .taken), search needs)
+returns c = (rw (← (c .before .before .before .effective-address .ensures .0), ← (c .before .is-indirect-absent .ensures), c .if1 .taken), (search needs, search needs))
 
 operate-requires : tie.Need-operate-requires
 operate-requires c κs = search needs
@@ -22,9 +22,12 @@ operate-requires c κs = search needs
 same-length-2 : tie.Need-same-length-2
 same-length-2 c = search needs
 
+same-length-3 : tie.Need-same-length-3
+same-length-3 c = search needs
+
 returns-2 : tie.Need-returns-2
 unfolding operate
-returns-2 c = (rw (← (c .before .before .before .before .before .before .before .before .effective-address .ensures .0), ← (c .before .before .before .before .before .before .is-indirect-absent .ensures), c .before .before .before .before .before .if1 .left, ← (c .before .before .operate .ensures .0)), search needs)
+returns-2 c = (rw (← (c .before .before .before .before .before .before .before .before .before .before .before .before .effective-address .ensures .0), ← (c .before .before .before .before .before .before .before .before .before .before .is-indirect-absent .ensures), c .before .before .before .before .before .before .before .before .before .if1 .left, ← (c .before .before .before .before .operate .ensures .0)), (search needs, search needs))
 
 pub operate-spec : {M : Type 1} → statement M
 operate-spec =
@@ -36,4 +39,5 @@ operate-spec =
     returns
     operate-requires
     same-length-2
+    same-length-3
     returns-2)

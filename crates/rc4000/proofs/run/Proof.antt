@@ -11,10 +11,10 @@ enum-told : tie.Need-enum-told
 enum-told c = search needs
 
 run-requires : tie.Need-run-requires
-run-requires c κs = fits-unraised _ _ _ _ (sym (c .before .before .enum-told .given .1) ∙ c .before .before .before .before .judge-run .ensures)
+run-requires c κs = fits-unraised _ _ _ _ _ _ (sym (c .before .before .before .enum-told .given .1) ∙ c .before .before .before .before .before .judge-run .ensures)
 
 run-raised-requires : tie.Need-run-raised-requires
-run-raised-requires c κs = fits-a-run _ _ _ _ (sym (c .before .before .enum-told .given .1) ∙ c .before .before .before .before .judge-run .ensures)
+run-raised-requires c κs = fits-a-run _ _ _ _ _ _ (sym (c .before .before .before .enum-told .given .1) ∙ c .before .before .before .before .before .judge-run .ensures)
 
 enum-known-v : tie.Need-enum-known-v
 enum-known-v c = search needs
@@ -22,20 +22,26 @@ enum-known-v c = search needs
 same-length : tie.Need-same-length
 same-length c = search needs
 
-returns : tie.Need-returns
-returns c = with-promises _ _ _ _ (run-unraised _ _ _ _ _ (c .before .before .before .before .if1 .taken) (sym (c .before .before .before .before .before .enum-told .given .1) ∙ c .before .before .before .before .before .before .before .judge-run .ensures) (c .before .before .run .ensures))
-
 same-length-2 : tie.Need-same-length-2
 same-length-2 c = search needs
 
-returns-2 : tie.Need-returns-2
-returns-2 c = with-promises _ _ _ _ (run-accepted _ _ _ _ _ (sym (c .before .before .before .before .before .enum-told .given .1) ∙ c .before .before .before .before .before .before .before .judge-run .ensures) (c .before .before .run-raised .ensures))
+returns : tie.Need-returns
+returns c = with-promises _ _ _ _ _ _ _ _ (run-unraised _ _ _ _ _ _ _ _ (c .before .before .before .before .before .before .before .if1 .taken) (sym (c .before .before .before .before .before .before .before .before .enum-told .given .1) ∙ c .before .before .before .before .before .before .before .before .before .before .judge-run .ensures) (c .before .before .before .before .run .ensures))
 
 same-length-3 : tie.Need-same-length-3
 same-length-3 c = search needs
 
+same-length-4 : tie.Need-same-length-4
+same-length-4 c = search needs
+
+returns-2 : tie.Need-returns-2
+returns-2 c = with-promises _ _ _ _ _ _ _ _ (run-accepted _ _ _ _ _ _ _ _ (sym (c .before .before .before .before .before .before .before .before .enum-told .given .1) ∙ c .before .before .before .before .before .before .before .before .before .before .judge-run .ensures) (c .before .before .before .before .run-raised .ensures))
+
+same-length-5 : tie.Need-same-length-5
+same-length-5 c = search needs
+
 returns-3 : tie.Need-returns-3
-returns-3 c = with-promises _ _ _ _ (run-rejected _ _ _ _ _ (sym (c .before .v .given .1) ∙ c .before .before .before .judge-run .ensures))
+returns-3 c = with-promises _ _ _ _ _ _ _ _ (run-rejected _ _ _ _ _ _ _ _ (sym (c .before .v .given .1) ∙ c .before .before .before .judge-run .ensures))
 
 pub run-spec : {M : Type 1} → statement M
 run-spec =
@@ -47,8 +53,10 @@ run-spec =
     run-raised-requires
     enum-known-v
     same-length
-    returns
     same-length-2
-    returns-2
+    returns
     same-length-3
+    same-length-4
+    returns-2
+    same-length-5
     returns-3)

@@ -9,9 +9,26 @@ control-of-requires c κs = search needs
 control-after-requires : tie.Need-control-after-requires
 control-after-requires c κs = search needs
 
+devices-of-requires : tie.Need-devices-of-requires
+devices-of-requires c κs = search needs
+
+taken-requires : tie.Need-taken-requires
+taken-requires c κs = search needs
+
+typed-requires : tie.Need-typed-requires
+typed-requires c κs = search needs
+
 returns : tie.Need-returns
 unfolding runOf
-returns c = rw (← (c .before .control-of .ensures), ← (c .control-after .ensures))
+returns c = rw (← (c .before .before .before .before .control-of .ensures), ← (c .before .before .before .control-after .ensures), ← (c .before .before .devices-of .ensures), ← (c .before .taken .ensures), ← (c .typed .ensures))
 
 pub finished-spec : {M : Type 1} → statement M
-finished-spec = tie.close (tie.spec control-of-requires control-after-requires returns)
+finished-spec =
+    tie.close
+    (tie.spec
+    control-of-requires
+    control-after-requires
+    devices-of-requires
+    taken-requires
+    typed-requires
+    returns)

@@ -1,6 +1,6 @@
-use Rattle.definition.specs.Machine.{machine}
+use Rattle.definition.specs.Machine.{computer}
 use Rattle.definition.proofs.Validity.{accepted-valid}
-use Rattle.runner.proofs.Loop.{begun-in-reset}
+use Rattle.runner.proofs.Loop.{handed-in-reset, handed-run}
 use borrow.Author.Needs.{needs}
 use Rattle.runner.proofs.run_raised.Statement.{statement}
 use Rattle.runner.proofs.run_raised.Tie as tie
@@ -12,13 +12,16 @@ in-reset-requires : tie.Need-in-reset-requires
 in-reset-requires c κs = search needs
 
 returns : tie.Need-returns
-returns c = rw (c .in-reset .ensures, ← (c .before .before .raise .ensures)) (begun-in-reset _ _ _ (c .before .if1 .taken))
+returns c = rw (c .in-reset .ensures, c .before .before .raise .ensures) (handed-in-reset _ _ _ _ _ _ (rw (c .before .before .raise .ensures) at (c .before .if1 .taken)))
 
 row-of-requires : tie.Need-row-of-requires
-row-of-requires c κs = (rw (c .before .raise .ensures) (accepted-valid (machine _ _) (c .before .before .before .pre .0) .widths .high), c .if1 .left)
+row-of-requires c κs = (rw (c .before .raise .ensures) (accepted-valid (computer _ _) (c .before .before .before .before .before .pre .0) .widths .high), c .if1 .left)
+
+channel-of-requires : tie.Need-channel-of-requires
+channel-of-requires c κs = search needs
 
 cycles-requires : tie.Need-cycles-requires
-cycles-requires c κs = (rw (c .before .before .row-of .ensures .0, c .before .before .before .before .raise .ensures) (c .before .before .before .before .before .before .pre .0), c .before .before .before .before .before .before .pre .1, c .before .before .row-of .ensures .1)
+cycles-requires c κs = (rw (c .before .before .before .before .before .before .row-of .ensures .0, c .before .before .before .before .before .before .before .before .raise .ensures) (c .before .before .before .before .before .before .before .before .before .before .before .before .pre .0), c .before .before .before .before .before .before .before .before .before .before .before .before .pre .1, c .before .before .before .before .before .before .row-of .ensures .1, c .before .before .before .before .channel-of .ensures .1)
 
 finished-requires : tie.Need-finished-requires
 finished-requires c κs = search needs
@@ -26,8 +29,11 @@ finished-requires c κs = search needs
 same-length : tie.Need-same-length
 same-length c = search needs
 
+same-length-2 : tie.Need-same-length-2
+same-length-2 c = search needs
+
 returns-2 : tie.Need-returns-2
-returns-2 c = rw (c .finished .ensures) (rw (c .before .before .before .before .before .before .before .row-of .ensures .0, c .before .before .before .before .before .before .before .before .before .raise .ensures) at (c .before .before .before .before .cycles .ensures))
+returns-2 c = rw (c .finished .ensures) (handed-run _ _ _ _ _ _ (rw (c .before .before .before .before .before .before .before .before .before .before .before .before .before .before .before .row-of .ensures .0, c .before .before .before .before .before .before .before .before .before .before .before .before .before .channel-of .ensures .0, c .before .before .before .before .before .before .before .before .before .before .before .before .before .before .before .before .before .raise .ensures) at (c .before .before .before .before .before .before .before .before .cycles .ensures .0)))
 
 pub run-raised-spec : {M : Type 1} → statement M
 run-raised-spec =
@@ -37,7 +43,9 @@ run-raised-spec =
     in-reset-requires
     returns
     row-of-requires
+    channel-of-requires
     cycles-requires
     finished-requires
     same-length
+    same-length-2
     returns-2)

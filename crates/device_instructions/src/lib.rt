@@ -1,0 +1,152 @@
+// The instructions that reach devices, IO and AW (14.8, chapter 8): each function does the micro-operations of its meaning, in their order.
+ghost use mathlib.Core.Path.{_≡_};
+ghost use mathlib.Core.Bool.{true};
+ghost use Prim.Native.Nat.{_/_, _<_};
+ghost use Rattle.row.specs.Row.{controlAt, IsRow};
+ghost use Rattle.row.specs.Answers.{ending, endingOf, endingWith};
+ghost use Rattle.machine.specs.Fields.{flagsCleared};
+ghost use Rattle.machine.specs.Store.{putWord, putKey};
+ghost use Rattle.definition.specs.Machine.{machine};
+ghost use Rattle.definition.specs.Channel.{readFrom, shiftedIn, fourLeft};
+ghost use Rattle.definition.specs.MicroOps.{deviceSteps};
+ghost use Rattle.definition.specs.Meaning.{IO, AW, rejection, autoloading};
+ghost use Rattle.definition.specs.Codes.{executingDevice};
+ghost use Rattle.channel.specs.Row.{channelAt, IsChannel};
+use channel::Channel;
+use machine::Control;
+use machine::WORD;
+use row::End;
+use row::Row;
+
+// EX(22:23): disconnected, busy.
+fn rejection(rejected: bool) -> u32
+    ensures value { λ r. ⌜ r ≡ rejection rejected ⌝ }
+    ensures bound { λ r. ⌜ r < 4 ⌝ }
+{
+    if rejected { 2 } else { 0 }
+}
+
+// Input/Output.
+pub fn io(
+    s: &mut [u32],
+    k: &mut Row,
+    h: &mut Channel,
+    characters: &[u8],
+    typing: &mut [u8],
+    w: u32,
+    sb: u32,
+) -> End
+    requires { ⌜ IsRow (now k) × IsChannel (now h) (now characters) (now typing) ⌝ }
+    ensures value { λ r. ⌜ endingWith (channelAt (now (h .exit)) (now (characters .entry)) (now (typing .exit))) (endingOf r (now (s .exit)) (controlAt (now (k .exit)))) ≡ ending (executingDevice IO w sb (machine (now (s .entry)) (controlAt (now (k .entry))) (channelAt (now (h .entry)) (now (characters .entry)) (now (typing .entry))))) ⌝ }
+    ensures kept { λ _. ⌜ IsRow (now (k .exit)) ⌝ }
+    ensures channel { λ _. ⌜ IsChannel (now (h .exit)) (now (characters .entry)) (now (typing .exit)) ⌝ }
+{
+    if row::is_task(k) {
+        return End::Faulted;
+    }
+    let rejected = channel::is_disconnected(h, characters, typing, sb / 64, sb % 4);
+    let r = rejection(rejected);
+    let x = row::ex(k);
+    row::set_ex(k, x / 4 * 4 + r);
+    if rejected {
+        return End::Done;
+    }
+    if sb % 4 == 0 {
+        let v = channel::buffer_at(h, characters, typing, sb / 64);
+        machine::put_word(s, w, v);
+        return End::Done;
+    }
+    if sb % 4 == 1 {
+        return End::Done;
+    }
+    if sb % 4 == 2 {
+        channel::read(h, characters, typing, sb / 64);
+        return End::Done;
+    }
+    let v = machine::word_at(s, w);
+    channel::write(h, characters, typing, sb / 64, v);
+    End::Done
+}
+
+// AR(0:17) := AR(6:23); AR(18:23) := 0; AR := AR or SB.
+fn shift_in(ar: u32, sb: u32) -> u32
+    requires { ⌜ (ar < 16777216) × (sb < 16777216) ⌝ }
+    ensures value { λ r. ⌜ r ≡ shiftedIn ar sb ⌝ }
+    ensures bound { λ r. ⌜ r < 16777216 ⌝ }
+{
+    integer::or24(ar * 64 % WORD, sb)
+}
+
+// Start Input: the next character is read, and shifted into AR.
+fn input(k: &mut Row, h: &mut Channel, characters: &[u8], typing: &[u8], ar: u32) -> u32
+    requires { ⌜ (ar < 16777216) × IsRow (now k) × IsChannel (now h) (now characters) (now typing) ⌝ }
+    ensures register { λ r. ⌜ r ≡ shiftedIn ar (channelAt (now (h .exit)) (now (characters .entry)) (now (typing .entry)) .reader) ⌝ }
+    ensures bound { λ r. ⌜ r < 16777216 ⌝ }
+    ensures control { λ _. ⌜ controlAt (now (k .exit)) ≡ flagsCleared (controlAt (now (k .entry))) ⌝ }
+    ensures channel { λ _. ⌜ channelAt (now (h .exit)) (now (characters .entry)) (now (typing .entry)) ≡ readFrom 0 (channelAt (now (h .entry)) (now (characters .entry)) (now (typing .entry))) ⌝ }
+    ensures kept { λ _. ⌜ IsRow (now (k .exit)) × IsChannel (now (h .exit)) (now (characters .entry)) (now (typing .entry)) ⌝ }
+{
+    channel::read(h, characters, typing, 0);
+    row::clear_flags(k);
+    let c = channel::buffer_at(h, characters, typing, 0);
+    shift_in(ar, c)
+}
+
+// word(SB) := AR(0:23); protection key(SB) := 0.
+fn load(s: &mut [u32], sb: u32, ar: u32)
+    ensures { λ _. ⌜ now (s .exit) ≡ putKey (putWord (now (s .entry)) (sb / 2) ar) (sb / 2) 0 ⌝ }
+{
+    machine::put_word(s, sb / 2, ar);
+    machine::put_key(s, sb / 2, 0);
+}
+
+// Autoload Word where four characters are left: they go into the word addressed.
+pub fn autoload(
+    s: &mut [u32],
+    k: &mut Row,
+    h: &mut Channel,
+    characters: &[u8],
+    typing: &[u8],
+    sb: u32,
+) -> End
+    requires { ⌜ (fourLeft (channelAt (now h) (now characters) (now typing) .characters) ≡ true) × IsRow (now k) × IsChannel (now h) (now characters) (now typing) ⌝ }
+    ensures value { λ r. ⌜ endingWith (channelAt (now (h .exit)) (now (characters .entry)) (now (typing .entry))) (endingOf r (now (s .exit)) (controlAt (now (k .exit)))) ≡ ending (deviceSteps 0 (autoloading sb (channelAt (now (h .entry)) (now (characters .entry)) (now (typing .entry)) .characters)) (machine (now (s .entry)) (controlAt (now (k .entry))) (channelAt (now (h .entry)) (now (characters .entry)) (now (typing .entry))))) ⌝ }
+    ensures kept { λ _. ⌜ IsRow (now (k .exit)) ⌝ }
+    ensures channel { λ _. ⌜ IsChannel (now (h .exit)) (now (characters .entry)) (now (typing .entry)) ⌝ }
+{
+    let a = input(k, h, characters, typing, 0);
+    let b = input(k, h, characters, typing, a);
+    let c = input(k, h, characters, typing, b);
+    let v = input(k, h, characters, typing, c);
+    if machine::is_absent(s, sb) {
+        return End::Faulted;
+    }
+    load(s, sb, v);
+    End::Done
+}
+
+// Autoload Word.
+pub fn aw(
+    s: &mut [u32],
+    k: &mut Row,
+    h: &mut Channel,
+    characters: &[u8],
+    typing: &[u8],
+    w: u32,
+    sb: u32,
+) -> End
+    requires { ⌜ IsRow (now k) × IsChannel (now h) (now characters) (now typing) ⌝ }
+    ensures value { λ r. ⌜ endingWith (channelAt (now (h .exit)) (now (characters .entry)) (now (typing .entry))) (endingOf r (now (s .exit)) (controlAt (now (k .exit)))) ≡ ending (executingDevice AW w sb (machine (now (s .entry)) (controlAt (now (k .entry))) (channelAt (now (h .entry)) (now (characters .entry)) (now (typing .entry))))) ⌝ }
+    ensures kept { λ _. ⌜ IsRow (now (k .exit)) ⌝ }
+    ensures channel { λ _. ⌜ IsChannel (now (h .exit)) (now (characters .entry)) (now (typing .entry)) ⌝ }
+{
+    if row::is_task(k) {
+        return End::Faulted;
+    }
+    if channel::has_four(h, characters, typing) {
+        return autoload(s, k, h, characters, typing, sb);
+    }
+    let n = row::ic(k);
+    machine::put_word(s, Control::RETURN_ADDRESS / 2, n);
+    End::Reset
+}

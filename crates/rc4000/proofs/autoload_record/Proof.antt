@@ -1,0 +1,12 @@
+use Rattle.running.specs.Keys.{autoloadRecord}
+use borrow.Author.Needs.{needs}
+use Rattle.running.specs.Keys.{autoloadRecord}
+use Rattle.rc4000.proofs.autoload_record.Statement.{statement}
+use Rattle.rc4000.proofs.autoload_record.Tie as tie
+
+returns : tie.Need-returns
+unfolding autoloadRecord
+returns c = search needs
+
+pub autoload-record-spec : {M : Type 1} → statement M
+autoload-record-spec = tie.close (tie.spec returns)
