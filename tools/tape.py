@@ -19,8 +19,10 @@ A listing has one item a line; `;` starts a comment.
                                 the control record; PR is 128 where it is not given
     end                         the end record
     raw HEX..                   bytes as they are, for tapes that are to be refused
+    text TEXT                   characters behind the program on a reader tape (tools/reader.py), the rest of the
+                                line; a load tape has none of them
 
-A number may be `bit I`, a word with bit I from the left, written bitI: IR=bit5.
+A number may be `bit I`, a word with bit I from the left, written bitI: IR=bit5; or the code of a character, written 'C.
 """
 import math
 import os
@@ -41,6 +43,8 @@ def number(text, labels):
     bit = re.fullmatch(r"bit(\d+)", text)
     if bit:
         return 1 << (23 - int(bit[1]))
+    if len(text) == 2 and text[0] == "'":
+        return ord(text[1])
     try:
         return int(text, 0)
     except ValueError:
@@ -118,7 +122,7 @@ class Maker:
 
     def __init__(self, labels, final):
         self.labels, self.final = labels, final
-        self.tape, self.block = b"", None
+        self.tape, self.text, self.block = b"", "", None
 
     def close_block(self):
         if self.block is not None:
@@ -151,6 +155,8 @@ class Maker:
         elif name == "raw":
             self.close_block()
             self.tape += bytes.fromhex("".join(fields[1:]))
+        elif name == "text":
+            self.text += line[len("text"):].strip()
         else:
             self.cells(fields)
 
@@ -181,7 +187,8 @@ class Any(dict):
         return self.default
 
 
-def make(listing):
+def made(listing):
+    """The maker with the tape and the text of a listing."""
     labels = {}
     for final in (False, True):
         maker = Maker(labels, final)
@@ -193,21 +200,26 @@ def make(listing):
                 except (Error, IndexError, ValueError) as error:
                     sys.exit(f"line {place}: {error}: {line}")
         maker.close_block()
-    return maker.tape
+    return maker
 
 
-def main(arguments):
+def make(listing):
+    return made(listing).tape
+
+
+def main(arguments, tool, help, make, ending):
+    """Makes or checks tapes, whose names have this ending, by a function from listing to tape."""
     if len(arguments) > 1 and arguments[0] == "--check":
         for listing in arguments[1:]:
-            with open(listing) as text, open(os.path.splitext(listing)[0] + ".tape", "rb") as tape:
+            with open(listing) as text, open(os.path.splitext(listing)[0] + ending, "rb") as tape:
                 if make(text.read()) != tape.read():
                     sys.exit(f"{listing} does not make the tape beside it")
         return
     if arguments == ["--help"]:
-        print(__doc__.strip())
+        print(help.strip())
         return
     if len(arguments) != 2:
-        sys.exit("usage: tape.py LISTING TAPE | tape.py --check LISTING..")
+        sys.exit(f"usage: {tool} LISTING TAPE | {tool} --check LISTING..")
     with open(arguments[0]) as text:
         tape = make(text.read())
     with open(arguments[1], "wb") as output:
@@ -215,4 +227,4 @@ def main(arguments):
 
 
 if __name__ == "__main__":
-    main(sys.argv[1:])
+    main(sys.argv[1:], "tape.py", __doc__, make, ".tape")

@@ -12,7 +12,7 @@ int main(void) {
         printf("refused %u\n", loaded.refusal);
         return 1;
     }
-    rc4000_result run = rc4000_run(store, 4096, loaded.control, 0, 100);
+    rc4000_result run = rc4000_run_without_devices(store, 4096, loaded.control, 0, 100);
     printf("outcome %u executed %u entries %u IC %u\n", run.outcome, run.executed, run.entries,
            run.control.ic);
     return 0;

@@ -9,6 +9,7 @@ enum { CELLS = 8, FLAGS = 3 };
 
 static const uint8_t tape[32] = {20, 0, 0, 0, 2, 0, [22] = 128, 0, 5, 0, 0, 0, 0, 0, 3, 0};
 static const rc4000_control tapes_record = {.pr = 128, .monitor = 1, .reset = 1};
+static const uint8_t wrong[5] = {1, 2, 3, 4, 64}; /* the last is no character */
 static int differences;
 
 static void expect(bool holds, const char *what, int flag, unsigned byte) {
@@ -31,16 +32,43 @@ static bool same(rc4000_control a, rc4000_control b) {
            a.ex == b.ex && a.monitor == b.monitor && a.enabled == b.enabled && a.reset == b.reset;
 }
 
+/* The run gives the refusal before lines, budget and devices are tested, and
+ * changes nothing. */
+static void run_refused(uint32_t *store, size_t count, uint32_t refusal, int flag, unsigned byte) {
+    const rc4000_control given = with_flag(flag, byte);
+    const rc4000_devices wide = {16777216, 5};
+    uint8_t typing = 7;
+    const rc4000_result run =
+        rc4000_run(store, count, given, 16777216, 65536, wide, wrong, sizeof wrong, &typing, 1);
+    expect(run.outcome == RC4000_REFUSED && run.number == refusal, "run", flag, byte);
+    expect(run.executed == 0 && run.entries == 0, "counts of run", flag, byte);
+    expect(run.taken == 0 && run.typed == 0 && typing == 7, "devices of run", flag, byte);
+    expect(run.devices.reader == 16777216 && run.devices.typewriter == 5, "registers of run", flag,
+           byte);
+    expect(same(run.control, given), "record of run", flag, byte);
+}
+
+/* So does the autoload key. */
+static void autoload_refused(uint32_t *store, size_t count, uint32_t refusal, int flag,
+                             unsigned byte) {
+    const rc4000_control given = with_flag(flag, byte);
+    const rc4000_devices wide = {3, 16777216};
+    const rc4000_autoloaded key =
+        rc4000_press_autoload(store, count, given, wide, wrong, sizeof wrong);
+    expect(key.refusal == refusal && key.taken == 0, "autoload key", flag, byte);
+    expect(key.devices.reader == 3 && key.devices.typewriter == 16777216,
+           "registers of the autoload key", flag, byte);
+    expect(same(key.control, given), "record of the autoload key", flag, byte);
+}
+
 /* Each call on a store of these cells gives the refusal, and changes nothing. */
 static void refused(const uint32_t *cells, size_t count, uint32_t refusal, int flag,
                     unsigned byte) {
     const rc4000_control given = with_flag(flag, byte);
     uint32_t store[CELLS];
     memcpy(store, cells, sizeof store);
-    const rc4000_result run = rc4000_run(store, count, given, 16777216, 65536);
-    expect(run.outcome == RC4000_REFUSED && run.number == refusal, "run", flag, byte);
-    expect(run.executed == 0 && run.entries == 0, "counts of run", flag, byte);
-    expect(same(run.control, given), "record of run", flag, byte);
+    run_refused(store, count, refusal, flag, byte);
+    autoload_refused(store, count, refusal, flag, byte);
     const rc4000_state reset = rc4000_press_reset(store, count, given);
     expect(reset.refusal == refusal, "reset key", flag, byte);
     expect(same(reset.control, given), "record of the reset key", flag, byte);
@@ -54,11 +82,15 @@ static void refused(const uint32_t *cells, size_t count, uint32_t refusal, int f
 static void taken(int flag, unsigned byte) {
     const rc4000_control given = with_flag(flag, byte);
     uint32_t store[CELLS] = {0};
-    const rc4000_result run = rc4000_run(store, CELLS, given, 0, 0);
+    const rc4000_result run = rc4000_run_without_devices(store, CELLS, given, 0, 0);
     expect(run.outcome == (given.reset ? RC4000_RESET : RC4000_SPENT), "run", flag, byte);
     expect(same(run.control, given), "record of run", flag, byte);
     const rc4000_state start = rc4000_press_start(store, CELLS, given);
     expect(start.refusal == 0 && start.control.reset == 0, "start key", flag, byte);
+    const rc4000_autoloaded key =
+        rc4000_press_autoload(store, CELLS, given, (rc4000_devices){0, 0}, wrong, 4);
+    expect(key.refusal == 0 && key.control.reset == 0, "autoload key", flag, byte);
+    expect(key.taken == (given.reset ? 4 : 0), "characters of the autoload key", flag, byte);
     const rc4000_state reset = rc4000_press_reset(store, CELLS, given);
     expect(reset.refusal == 0 && reset.control.reset == 1, "reset key", flag, byte);
 }

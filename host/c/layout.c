@@ -18,16 +18,29 @@ AT(rc4000_control, monitor, 24);
 AT(rc4000_control, enabled, 25);
 AT(rc4000_control, reset, 26);
 
-SIZE(rc4000_result, 44);
+SIZE(rc4000_devices, 8);
+AT(rc4000_devices, reader, 0);
+AT(rc4000_devices, typewriter, 4);
+
+SIZE(rc4000_result, 72);
 AT(rc4000_result, control, 0);
 AT(rc4000_result, outcome, 28);
 AT(rc4000_result, number, 32);
 AT(rc4000_result, executed, 36);
 AT(rc4000_result, entries, 40);
+AT(rc4000_result, devices, 44);
+AT(rc4000_result, taken, 56);
+AT(rc4000_result, typed, 64);
 
 SIZE(rc4000_state, 32);
 AT(rc4000_state, control, 0);
 AT(rc4000_state, refusal, 28);
+
+SIZE(rc4000_autoloaded, 48);
+AT(rc4000_autoloaded, control, 0);
+AT(rc4000_autoloaded, refusal, 28);
+AT(rc4000_autoloaded, devices, 32);
+AT(rc4000_autoloaded, taken, 40);
 
 SIZE(rc4000_text, 24);
 AT(rc4000_text, refusal, 0);

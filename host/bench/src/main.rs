@@ -1,100 +1,63 @@
 //! `bench [SECONDS]`: one table, the proved library against the emulation.
 //!
 //! A program is a tape whose loop does not end; it is run with the largest
-//! budget again and again. The two machines take their slices of time by
-//! turns; the pair of slices with the median ratio is shown. SECONDS is the time for
-//! each row, 4 where it is not given.
+//! budget again and again. An autoload is the two keys and a run until the
+//! reader's characters end. Each run is lent the same characters and typing
+//! space. The two machines take their slices of time by turns; the pair of
+//! slices with the median ratio is shown. SECONDS is the time for each row, 4
+//! where it is not given.
 //!
 //! `bench MACHINE ROW RUNS`: no table, but so many runs of the program of one
-//! row, 0 to 5, on one machine, `proved` or `emulation`; for a counter of host
-//! instructions (`host/count`).
+//! row, 0 to 8, on one machine, `proved` or `emulation`, and the executed
+//! instructions; for a counter of host instructions (`host/count`).
 
-use protocol::{Control, Emulation, Machine, Outcome};
+mod machine;
+mod rows;
+
+use machine::{Emulation, Machine};
+use rows::{Reader, Row, ROWS};
 use std::time::{Duration, Instant};
 
-#[cfg(feature = "proved")]
-const TESTED: protocol::Proved = protocol::Proved;
 #[cfg(not(feature = "proved"))]
-const TESTED: Emulation = Emulation;
+use machine::Emulation as Tested;
+#[cfg(feature = "proved")]
+use machine::Proved as Tested;
 
 /// Slices of time that each machine has in a row of the table.
 const SLICES: u32 = 9;
-const LARGEST_BUDGET: u32 = 65_535;
 
-/// A row of the table.
-struct Row {
-    name: &'static str,
-    tape: &'static [u8],
-    cells: usize,
-    budget: u32,
-}
-
-macro_rules! tape {
-    ($name:literal) => {
-        include_bytes!(concat!("../tapes/", $name, ".tape"))
-    };
-}
-
-const fn program(name: &'static str, tape: &'static [u8]) -> Row {
-    Row {
-        name,
-        tape,
-        cells: 4096,
-        budget: LARGEST_BUDGET,
-    }
-}
-
-const fn calls(name: &'static str, cells: usize) -> Row {
-    Row {
-        name,
-        tape: tape!("registers"),
-        cells,
-        budget: 1,
-    }
-}
-
-const ROWS: [Row; 8] = [
-    program("register loop", tape!("registers")),
-    program("byte copy loop", tape!("bytes")),
-    program("multiply loop (WM)", tape!("multiply")),
-    program("divide loop (WD)", tape!("divide")),
-    program("floating loop (FA FM FD)", tape!("floating")),
-    program("task-mode loop with stores", tape!("task")),
-    calls("budget 1, 4,096 cells", 4096),
-    calls("budget 1, 1,048,576 cells", 1_048_576),
-];
-
-/// A machine with the tape of a row loaded.
+/// A machine with the tape of a row loaded, and what its runs are lent.
 struct Loaded<M> {
     machine: M,
-    store: Vec<u32>,
-    control: Control,
     budget: u32,
+    autoload: bool,
+    characters: Vec<u8>,
+    typing: Vec<u8>,
 }
 
 impl<M: Machine> Loaded<M> {
-    fn new(machine: M, row: &Row) -> Self {
-        let mut store = vec![0; row.cells];
-        let mut control = Control::fresh();
-        machine
-            .load(&mut store, &mut control, row.tape)
-            .expect("the tape loads");
+    fn new(row: &Row) -> Self {
         Loaded {
-            machine,
-            store,
-            control,
+            machine: M::load(row.cells, row.tape),
             budget: row.budget,
+            autoload: matches!(row.reader, Reader::Autoload),
+            characters: row.reader.characters(),
+            typing: vec![0; row.space],
         }
     }
 
     /// One run with the whole budget; gives the executed instructions.
     fn run(&mut self) -> u64 {
-        let report = self
-            .machine
-            .run(&mut self.store, &mut self.control, 0, self.budget)
-            .expect("a run that is not refused");
-        assert_eq!(report.outcome, Outcome::Spent);
-        u64::from(report.executed)
+        let taken = if self.autoload {
+            self.machine.autoload(&self.characters)
+        } else {
+            0
+        };
+        let characters = &self.characters[taken..];
+        let ran = self.machine.run(self.budget, characters, &mut self.typing);
+        assert_eq!(ran.reset, self.autoload);
+        assert!(ran.taken + 1 >= characters.len() && ran.typed + 1 >= self.typing.len());
+        u64::from(ran.executed)
     }
 
     /// Runs for this time and gives the instructions per second.
@@ -111,12 +74,12 @@ impl<M: Machine> Loaded<M> {
     }
 }
 
-/// So many runs of a row's program and nothing else.
-fn run_only<M: Machine>(machine: M, row: &Row, runs: u32) {
-    let mut loaded = Loaded::new(machine, row);
-    for _ in 0..runs {
-        loaded.run();
-    }
+/// So many runs of a row's program and nothing else; shows the executed
+/// instructions.
+fn run_only<M: Machine>(row: &Row, runs: u32) {
+    let mut loaded = Loaded::<M>::new(row);
+    let executed: u64 = (0..runs).map(|_| loaded.run()).sum();
+    println!("{executed}");
 }
 
 /// Millions, with four significant digits.
@@ -130,8 +93,8 @@ fn millions(figure: f64) -> String {
 /// Rates of both machines, measured by turns: the pair with the median ratio.
 fn measure(row: &Row, seconds: f64) -> (f64, f64) {
     let slice = Duration::from_secs_f64(seconds / f64::from(2 * SLICES));
-    let mut tested = Loaded::new(TESTED, row);
-    let mut emulation = Loaded::new(Emulation, row);
+    let mut tested = Loaded::<Tested>::new(row);
+    let mut emulation = Loaded::<Emulation>::new(row);
     tested.rate(slice / 4);
     emulation.rate(slice / 4);
     let mut pairs: Vec<(f64, f64)> = (0..SLICES)
@@ -150,8 +113,8 @@ fn main() {
             let row = &ROWS[row.parse::<usize>().expect("a row's number")];
             let runs = runs.parse().expect("a number of runs");
             match machine.as_str() {
-                "proved" => run_only(TESTED, row, runs),
-                "emulation" => run_only(Emulation, row, runs),
+                "proved" => run_only::<Tested>(row, runs),
+                "emulation" => run_only::<Emulation>(row, runs),
                 _ => panic!("a machine is `proved` or `emulation`"),
             }
         }

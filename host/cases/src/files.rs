@@ -1,15 +1,30 @@
 //! The bytes of the cases and the lines of their answers.
+//!
+//! A case is a row of numbers of 4 bytes, little-endian: the call (0 run, 1 reset
+//! key, 2 start key, 3 autoload key), the number of cells, lines, budget, seven
+//! fields of the control record, the device buffer registers of reader and
+//! typewriter, the number of characters, the length of the typing buffer; then
+//! the cells, the characters and the bytes of the typing buffer, a number each.
+//!
+//! An answer is a line: of a run outcome, number, executed, entries, taken and
+//! typed; of the reset and start keys the refusal; of the autoload key the
+//! refusal and taken. Then for every call the seven fields, the two registers
+//! and the checksums of the cells and of the typing buffer.
 
-use protocol::{Control, Kind, Listed, Outcome, Refusal, Request};
+use protocol::{Control, Devices, Kind, Listed, Outcome, Refusal, Report, Request, Run};
 use std::fmt::Write;
 
-/// What a case asks for, with a store of all its cells.
+/// What a case asks for, with a store of all its cells. What a call does not
+/// take is zero or empty.
 struct Call {
     kind: u32,
     store: Vec<u32>,
     control: Control,
     lines: u32,
     budget: u32,
+    devices: Devices,
+    characters: Vec<u8>,
+    typing: Vec<u8>,
 }
 
 fn cells(listed: &Listed) -> Vec<u32> {
@@ -22,48 +37,114 @@ fn cells(listed: &Listed) -> Vec<u32> {
 
 impl Call {
     fn new(request: &Request) -> Self {
-        let (kind, store, control, lines, budget) = match request {
-            Request::Run {
+        match request {
+            Request::Run(run) => Call::run(run),
+            Request::PressReset { store, control } => Call::key(1, store, control),
+            Request::PressStart { store, control } => Call::key(2, store, control),
+            Request::PressAutoload {
                 store,
                 control,
-                lines,
-                budget,
-            } => (0, store, control, *lines, *budget),
-            Request::PressReset { store, control } => (1, store, control, 0, 0),
-            Request::PressStart { store, control } => (2, store, control, 0, 0),
+                devices,
+                characters,
+            } => Call {
+                devices: *devices,
+                characters: characters.clone(),
+                ..Call::key(3, store, control)
+            },
             _ => panic!("a case is a run or a key"),
-        };
+        }
+    }
+
+    fn run(run: &Run) -> Self {
+        Call {
+            kind: 0,
+            store: cells(&run.store),
+            control: run.control,
+            lines: run.lines,
+            budget: run.budget,
+            devices: run.devices,
+            characters: run.characters.clone(),
+            typing: run.typing.clone(),
+        }
+    }
+
+    fn key(kind: u32, store: &Listed, control: &Control) -> Self {
         Call {
             kind,
             store: cells(store),
             control: *control,
-            lines,
-            budget,
+            lines: 0,
+            budget: 0,
+            devices: Devices::default(),
+            characters: Vec::new(),
+            typing: Vec::new(),
         }
     }
 
     fn numbers(&self) -> Vec<u32> {
-        let size = self.store.len() as u32;
-        let mut numbers = vec![self.kind, size, self.lines, self.budget];
+        let [cells, characters, space] =
+            [self.store.len(), self.characters.len(), self.typing.len()]
+                .map(|length| length as u32);
+        let mut numbers = vec![self.kind, cells, self.lines, self.budget];
         numbers.extend(fields(&self.control));
+        numbers.extend(registers(&self.devices));
+        numbers.extend([characters, space]);
         numbers.extend(&self.store);
+        numbers.extend(self.characters.iter().copied().map(u32::from));
+        numbers.extend(self.typing.iter().copied().map(u32::from));
         numbers
     }
 
-    /// Outcome, number, executed and entries of a run; the refusal of a key.
+    /// Makes the call; its result.
     fn made(&mut self) -> Vec<u32> {
         let (store, control) = (&mut self.store, &mut self.control);
+        let (devices, characters) = (&mut self.devices, &self.characters);
         match self.kind {
-            0 => match emulation::run(store, control, self.lines, self.budget) {
-                Ok(report) => {
-                    let [outcome, number] = outcome(report.outcome);
-                    vec![outcome, number, report.executed, report.entries]
-                }
-                Err(refusal) => vec![0, refusal.number(), 0, 0],
-            },
+            0 => of_run(emulation::run(
+                store,
+                control,
+                self.lines,
+                self.budget,
+                devices,
+                characters,
+                &mut self.typing,
+            )),
             1 => vec![refusal(emulation::press_reset(store, control))],
-            _ => vec![refusal(emulation::press_start(store, control))],
+            2 => vec![refusal(emulation::press_start(store, control))],
+            _ => match emulation::press_autoload(store, control, devices, characters) {
+                Ok(taken) => vec![0, taken as u32],
+                Err(refusal) => vec![refusal.number(), 0],
+            },
         }
+    }
+
+    /// Its result, then control record, device buffer registers and checksums.
+    fn answer(&mut self) -> Vec<u32> {
+        let mut numbers = self.made();
+        numbers.extend(fields(&self.control));
+        numbers.extend(registers(&self.devices));
+        numbers.push(checksum(self.store.iter().copied()));
+        numbers.push(checksum(self.typing.iter().copied().map(u32::from)));
+        numbers
+    }
+}
+
+/// Outcome, number, executed, entries, taken and typed.
+fn of_run(result: Result<Report, Refusal>) -> Vec<u32> {
+    match result {
+        Ok(report) => {
+            let [outcome, number] = outcome(report.outcome);
+            let [taken, typed] = [report.taken, report.typed].map(|count| count as u32);
+            vec![
+                outcome,
+                number,
+                report.executed,
+                report.entries,
+                taken,
+                typed,
+            ]
+        }
+        Err(refusal) => vec![0, refusal.number(), 0, 0, 0, 0],
     }
 }
 
@@ -95,9 +176,12 @@ fn fields(control: &Control) -> [u32; 7] {
     ]
 }
 
-fn checksum(store: &[u32]) -> u32 {
-    let mix = |sum: u32, &cell: &u32| sum.wrapping_mul(31).wrapping_add(cell);
-    store.iter().fold(0, mix)
+fn registers(devices: &Devices) -> [u32; 2] {
+    [devices.reader, devices.typewriter]
+}
+
+fn checksum(numbers: impl Iterator<Item = u32>) -> u32 {
+    numbers.fold(0, |sum, number| sum.wrapping_mul(31).wrapping_add(number))
 }
 
 /// The file `stdin`: the number of cases, then the cases.
@@ -113,13 +197,9 @@ pub fn input(cases: &[Request]) -> Vec<u8> {
 pub fn answers(cases: &[Request]) -> String {
     let mut text = String::new();
     for request in cases {
-        let mut call = Call::new(request);
-        let mut numbers = call.made();
-        numbers.extend(fields(&call.control));
-        for number in numbers {
-            let _ = write!(text, "{number} ");
-        }
-        let _ = writeln!(text, "{}", checksum(&call.store));
+        let numbers = Call::new(request).answer();
+        let line: Vec<String> = numbers.iter().map(u32::to_string).collect();
+        let _ = writeln!(text, "{}", line.join(" "));
     }
     text
 }

@@ -7,6 +7,7 @@
 #![warn(missing_docs)]
 
 mod arithmetic;
+mod devices;
 mod files;
 mod instructions;
 mod machine;
@@ -28,6 +29,9 @@ pub const RANDOM: usize = 3000;
 /// The most cells of a case.
 pub const CELLS: usize = 64;
 
+/// The most characters, and the most bytes of a typing buffer.
+pub const LENT: usize = 40;
+
 /// The most cycles of a random case that is not refused.
 const CYCLES: u32 = 12;
 
@@ -40,6 +44,7 @@ pub fn cases(seed: u64) -> Vec<Request> {
         .chain(papers::cases())
         .chain(arithmetic::cases())
         .chain(sequences::cases())
+        .chain(devices::cases())
         .chain(random.filter(is_small).take(RANDOM))
         .collect()
 }
@@ -47,9 +52,14 @@ pub fn cases(seed: u64) -> Vec<Request> {
 /// A run or a key on few cells, of few cycles.
 fn is_small(request: &Request) -> bool {
     match request {
-        Request::Run { store, budget, .. } => {
-            store.size <= CELLS && (*budget <= CYCLES || *budget > 65_535)
+        Request::Run(run) => {
+            run.store.size <= CELLS
+                && (run.budget <= CYCLES || run.budget > 65_535)
+                && run.characters.len().max(run.typing.len()) <= LENT
         }
+        Request::PressAutoload {
+            store, characters, ..
+        } => store.size <= CELLS && characters.len() <= LENT,
         Request::PressReset { store, .. } | Request::PressStart { store, .. } => {
             store.size <= CELLS
         }

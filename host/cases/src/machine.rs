@@ -1,12 +1,12 @@
 //! A machine that a case is made of.
 
 use compare::{assemble, MNEMONICS, WORD};
-use protocol::{Control, Listed, Request};
+use protocol::{Control, Devices, Listed, Request, Run};
 
 /// The one key that a machine in task mode allows.
 const ALLOWED: u32 = 1;
 
-/// Store, control record, lines and budget.
+/// Store, control record, lines, budget and what is lent for the devices.
 #[derive(Clone)]
 pub struct Machine {
     /// The cells.
@@ -17,6 +17,12 @@ pub struct Machine {
     pub lines: u32,
     /// The most cycles.
     pub budget: u32,
+    /// The device buffer registers.
+    pub devices: Devices,
+    /// The characters in the reader.
+    pub characters: Vec<u8>,
+    /// The typing buffer.
+    pub typing: Vec<u8>,
 }
 
 /// The word of an instruction by its mnemonic code.
@@ -32,7 +38,8 @@ pub fn bit(number: u32) -> u32 {
 
 impl Machine {
     /// Cells of zero, IC 16, monitor mode, the interruption program at the
-    /// last cell, one cycle. All keys are 0, which is forbidden.
+    /// last cell, one cycle. All keys are 0, which is forbidden. Nothing is lent
+    /// for the devices.
     pub fn new(cells: usize) -> Self {
         let control = Control {
             ic: 16,
@@ -44,6 +51,9 @@ impl Machine {
             control,
             lines: 0,
             budget: 1,
+            devices: Devices::default(),
+            characters: Vec::new(),
+            typing: Vec::new(),
         };
         machine.word(12, 2 * cells as u32 - 2)
     }
@@ -132,6 +142,24 @@ impl Machine {
         self
     }
 
+    /// Sets the device buffer registers.
+    pub fn devices(mut self, reader: u32, typewriter: u32) -> Self {
+        self.devices = Devices { reader, typewriter };
+        self
+    }
+
+    /// Puts characters in the reader.
+    pub fn characters(mut self, characters: &[u8]) -> Self {
+        self.characters = characters.to_vec();
+        self
+    }
+
+    /// Lends a typing buffer.
+    pub fn typing(mut self, typing: &[u8]) -> Self {
+        self.typing = typing.to_vec();
+        self
+    }
+
     fn listed(&self) -> Listed {
         let cells = self.cells.iter().copied().enumerate();
         Listed {
@@ -142,11 +170,24 @@ impl Machine {
 
     /// The case that runs it.
     pub fn run(&self) -> Request {
-        Request::Run {
+        Request::Run(Run {
             store: self.listed(),
             control: self.control,
             lines: self.lines,
             budget: self.budget,
+            devices: self.devices,
+            characters: self.characters.clone(),
+            typing: self.typing.clone(),
+        })
+    }
+
+    /// The case that presses the autoload key.
+    pub fn press_autoload(&self) -> Request {
+        Request::PressAutoload {
+            store: self.listed(),
+            control: self.control,
+            devices: self.devices,
+            characters: self.characters.clone(),
         }
     }
 

@@ -1,4 +1,4 @@
-//! Refusals 1 to 5, alone and two at a time, with what just passes.
+//! Refusals 1 to 5 and 13, alone and two at a time, with what just passes.
 
 use crate::machine::Machine;
 use protocol::Request;
@@ -14,7 +14,12 @@ pub fn cases() -> Vec<Request> {
 }
 
 fn every_call(machine: &Machine) -> Vec<Request> {
-    vec![machine.run(), machine.press_reset(), machine.press_start()]
+    vec![
+        machine.run(),
+        machine.press_reset(),
+        machine.press_start(),
+        machine.press_autoload(),
+    ]
 }
 
 fn machine() -> Machine {
@@ -98,20 +103,26 @@ fn refused(mut machine: Machine, number: u32) -> Machine {
         2 => machine.cells[6] = u32::MAX,
         3 => machine.control.ex = 8,
         4 => machine.lines = 1 << 23,
-        _ => machine.budget = 65_536,
+        5 => machine.budget = 65_536,
+        _ => machine.characters = vec![1, 2, 3, 64],
     }
     machine
 }
 
+/// The refusals in the order of their tests.
+const ORDER: [u32; 6] = [1, 2, 3, 4, 5, 13];
+
 /// Each pair of refusals, and all from one on.
 fn together() -> Vec<Machine> {
     let mut machines = Vec::new();
-    for first in 1..=5 {
-        machines.push(refused(machine(), first));
-        for second in first + 1..=5 {
-            machines.push(refused(refused(machine(), first), second));
+    for (place, &first) in ORDER.iter().enumerate() {
+        let later = &ORDER[place + 1..];
+        let alone = refused(machine(), first);
+        machines.push(alone.clone());
+        for &second in later {
+            machines.push(refused(alone.clone(), second));
         }
-        machines.push((first..=5).fold(machine(), refused));
+        machines.push(later.iter().copied().fold(alone, refused));
     }
     machines
 }

@@ -14,6 +14,23 @@ fn the_stored_files_are_the_emulations() {
     assert!(stored("stdout") == cases::answers(&cases).into_bytes());
 }
 
+#[test]
+fn the_lengths_in_the_input_make_up_the_whole() {
+    let cases = cases::cases(cases::SEED);
+    let input = cases::input(&cases);
+    let numbers: Vec<usize> = input
+        .chunks_exact(4)
+        .map(|bytes| u32::from_le_bytes([bytes[0], bytes[1], bytes[2], bytes[3]]) as usize)
+        .collect();
+    let mut place = 1;
+    for _ in 0..numbers[0] {
+        let [cells, characters, space] = [1, 13, 14].map(|field| numbers[place + field]);
+        assert!(cells <= cases::CELLS && characters.max(space) <= cases::LENT);
+        place += 15 + cells + characters + space;
+    }
+    assert_eq!((numbers[0], place), (cases.len(), numbers.len()));
+}
+
 /// Whether a name of `Coverage::missing` is about tapes or large stores, which
 /// these cases leave out.
 fn is_left_out(name: &str) -> bool {

@@ -3,10 +3,12 @@
 //! A run is gone through again cycle by cycle by the emulation, to see which
 //! instruction each cycle met and what became of it.
 
+use crate::device_events::{key_events, run_events, DeviceInstruction, DEVICE_EVENTS};
 use crate::generator::Case;
+use crate::stretch::Stretch;
 use crate::tapes::DAMAGES;
 use crate::words::WORD;
-use protocol::{Answer, Control, Kind, Listed, Outcome, Request};
+use protocol::{Answer, Control, Kind, Outcome, Request, Run};
 use std::collections::BTreeMap;
 use std::fmt;
 
@@ -18,7 +20,14 @@ pub const MNEMONICS: [&str; 64] = [
     "FA", "FS", "FM", "KS", "FD", "CF", "DL", "DS", "AA", "SS", "58", "59", "60", "61", "62", "63",
 ];
 
-const CALLS: [&str; 5] = ["run", "reset key", "start key", "load", "remark"];
+const CALLS: [&str; 6] = [
+    "run",
+    "reset key",
+    "start key",
+    "autoload key",
+    "load",
+    "remark",
+];
 const MODES: [&str; 4] = ["X+D", "(X+D)", "X+IC+D", "(X+IC+D)"];
 
 /// The floating-point instructions: CI FA FS FM FD CF.
@@ -90,6 +99,10 @@ const EVENTS: [&str; 28] = [
     "no remark",
 ];
 
+fn all_events() -> impl Iterator<Item = &'static str> {
+    EVENTS.into_iter().chain(DEVICE_EVENTS)
+}
+
 fn add<K: Ord>(counts: &mut BTreeMap<K, u64>, key: K) {
     *counts.entry(key).or_insert(0) += 1;
 }
@@ -118,17 +131,19 @@ impl Coverage {
             add(&mut self.damages, place.unwrap_or(DAMAGES.len()));
         }
         match &case.request {
-            Request::Run {
-                store,
-                control,
-                lines,
-                budget,
-            } => {
+            Request::Run(run) => {
+                self.events(run_events(run, answer));
                 if let Answer::Run { report, .. } = answer {
-                    self.count_outcome(report.outcome, *budget);
-                    self.go_through(store, *control, *lines, *budget);
+                    self.count_outcome(report.outcome, run.budget);
+                    self.go_through(run);
                 }
             }
+            Request::PressAutoload {
+                control,
+                devices,
+                characters,
+                ..
+            } => self.events(key_events(control, devices, characters, answer)),
             Request::Load { tape, .. } | Request::Remark { tape, .. } => {
                 let taken = !matches!(answer, Answer::Refused(_));
                 self.event_if(taken && tape.len() == 65_536, "tape of 65,536 bytes");
@@ -138,8 +153,12 @@ impl Coverage {
     }
 
     fn event(&mut self, name: &'static str) {
-        debug_assert!(EVENTS.contains(&name), "{name}");
+        debug_assert!(all_events().any(|known| known == name), "{name}");
         add(&mut self.events, name);
+    }
+
+    fn events(&mut self, names: impl IntoIterator<Item = &'static str>) {
+        names.into_iter().for_each(|name| self.event(name));
     }
 
     fn event_if(&mut self, condition: bool, name: &'static str) {
@@ -153,8 +172,9 @@ impl Coverage {
             Request::Run { .. } => 0,
             Request::PressReset { .. } => 1,
             Request::PressStart { .. } => 2,
-            Request::Load { .. } => 3,
-            Request::Remark { .. } => 4,
+            Request::PressAutoload { .. } => 3,
+            Request::Load { .. } => 4,
+            Request::Remark { .. } => 5,
         };
         let number = match answer {
             Answer::Refused(refusal) => refusal.number(),
@@ -185,27 +205,26 @@ impl Coverage {
     }
 
     /// Makes the cycles of a run one by one.
-    fn go_through(&mut self, listed: &Listed, mut control: Control, lines: u32, budget: u32) {
-        if listed.size > 4096 {
-            self.event_if(listed.size == 8_388_608, "largest store");
+    fn go_through(&mut self, run: &Run) {
+        if run.store.size > 4096 {
+            self.event_if(run.store.size == 8_388_608, "largest store");
             return;
         }
-        let mut store = vec![0; listed.size];
-        for &(index, value) in &listed.cells {
-            store[index] = value;
-        }
-        control.ir |= lines;
-        for _ in 0..budget.min(CYCLES) {
-            let before = control;
-            let met = met(&store, &control);
-            let report = emulation::run(&mut store, &mut control, 0, 1);
-            let Ok(report) = report else { return };
-            if report.executed + report.entries == 0 {
+        let mut stretch = Stretch::new(run);
+        for _ in 0..run.budget.min(CYCLES) {
+            let before = stretch.control;
+            let met = met(&stretch.store, &before);
+            let device = met
+                .as_ref()
+                .and_then(|met| device_instruction(met, &stretch));
+            let Some(report) = stretch.cycle() else {
                 return;
-            }
-            self.count_cycle(&before, &control, met.as_ref(), report.outcome, &store);
+            };
+            self.events(device.iter().flat_map(|device| device.events(&report)));
+            let Stretch { control, store, .. } = &stretch;
+            self.count_cycle(&before, control, met.as_ref(), report.outcome, store);
             if let (Some(met), Outcome::Spent) = (met, report.outcome) {
-                self.count_operands(&met, &control);
+                self.count_operands(&met, control);
             }
             if report.outcome != Outcome::Spent {
                 return;
@@ -327,7 +346,7 @@ impl Coverage {
         missing.extend(absent(0..DAMAGES.len(), &self.damages, |place| {
             format!("{:?}", DAMAGES[place])
         }));
-        missing.extend(absent(EVENTS, &self.events, str::to_string));
+        missing.extend(absent(all_events(), &self.events, str::to_string));
         missing
     }
 
@@ -377,10 +396,11 @@ fn absent<K: Ord + Copy>(
 }
 
 /// The refusals that each call can give; 0 stands for none.
-const EXPECTED_ANSWERS: [&[u32]; 5] = [
-    &[0, 1, 2, 3, 4, 5],
+const EXPECTED_ANSWERS: [&[u32]; 6] = [
+    &[0, 1, 2, 3, 4, 5, 13],
     &[0, 1, 2, 3],
     &[0, 1, 2, 3],
+    &[0, 1, 2, 3, 13],
     &[0, 1, 2, 3, 6, 7, 8, 9, 10, 11, 12],
     &[0, 1, 3, 6, 7, 8, 9, 10, 11, 12],
 ];
@@ -423,6 +443,21 @@ fn met(store: &[u32], control: &Control) -> Option<Met> {
             store,
             address.map_or(usize::MAX, |address| address as usize / 2),
         ),
+    })
+}
+
+/// IO or AW with an effective address, and what is left for it.
+fn device_instruction(met: &Met, stretch: &Stretch) -> Option<DeviceInstruction> {
+    if met.code > 1 {
+        return None;
+    }
+    Some(DeviceInstruction {
+        code: met.code,
+        address: met.address?,
+        forbidden: stretch.control.pr & (128 >> met.key) != 0,
+        cells: stretch.store.len(),
+        characters: stretch.characters.len(),
+        space: stretch.typing.len() - stretch.typed,
     })
 }
 
@@ -482,7 +517,7 @@ impl Coverage {
                 "  {name}: done {}",
                 times(&self.answers, (call, 0))
             )?;
-            for number in 1..=12 {
+            for number in 1..=13 {
                 if let Some(times) = self.answers.get(&(call, number)) {
                     write!(formatter, ", refused {number} {times}")?;
                 }
@@ -526,7 +561,7 @@ impl fmt::Display for Coverage {
         self.write_answers(formatter)?;
         self.write_floats(formatter)?;
         writeln!(formatter, "events:")?;
-        for name in EVENTS {
+        for name in all_events() {
             writeln!(formatter, "  {name} {}", times(&self.events, name))?;
         }
         let missing = self.missing();

@@ -1,9 +1,10 @@
 //! Random requests.
 
+use crate::lent::{self, refuse_device};
 use crate::machines::{self, Image};
 use crate::random::Random;
 use crate::tapes::{self, Damage};
-use protocol::Request;
+use protocol::{Request, Run};
 
 /// A request, with what was done to its tape.
 pub struct Case {
@@ -18,7 +19,8 @@ pub fn case(seed: u64, number: u64) -> Case {
     let mut random = Random::for_case(seed, number);
     let random = &mut random;
     match random.below(100) {
-        0..=75 => without_tape(run(random)),
+        0..=71 => without_tape(run(random)),
+        72..=75 => without_tape(autoload_key(random)),
         76..=79 => without_tape(key(random, true)),
         80..=83 => without_tape(key(random, false)),
         84..=92 => load(random),
@@ -51,36 +53,66 @@ fn lines(random: &mut Random) -> u32 {
 
 fn run(random: &mut Random) -> Request {
     let mut image = machines::image(random);
+    let mut lent = lent::lent(random, image.size);
     let mut lines = lines(random);
     let mut budget = if image.long {
         random.pick(&[65_535, 65_534, 1000, 40_000])
     } else {
         budget(random)
     };
-    for number in refusals(random, 5) {
+    for number in refusals(random, 6) {
         match number {
             1 => refuse_size(random, &mut image),
             2 => refuse_cell(random, &mut image),
             3 => refuse_control(random, &mut image),
             4 => lines |= random.pick(&[1 << 23, 1 << 22, 1 << 21, 1 << 24, 1 << 31, 7 << 21]),
-            _ => budget = random.pick(&[65_536, 65_537, 1 << 24, u32::MAX]),
+            5 => budget = random.pick(&[65_536, 65_537, 1 << 24, u32::MAX]),
+            _ => refuse_device(random, &mut lent),
         }
     }
-    Request::Run {
+    Request::Run(Run {
         store: image.listed(),
         control: image.control,
         lines,
         budget,
-    }
+        devices: lent.devices,
+        characters: lent.characters,
+        typing: lent.typing,
+    })
 }
 
-fn key(random: &mut Random, reset: bool) -> Request {
+/// A machine to press a key of, in the reset state in one of two.
+fn image_for_key(random: &mut Random) -> Image {
     let mut image = machines::image(random);
     if random.one_in(2) {
         image.control.monitor = true;
         image.control.enabled = false;
         image.control.reset = true;
     }
+    image
+}
+
+fn autoload_key(random: &mut Random) -> Request {
+    let mut image = image_for_key(random);
+    let mut lent = lent::lent(random, image.size);
+    for number in refusals(random, 4) {
+        match number {
+            1 => refuse_size(random, &mut image),
+            2 => refuse_cell(random, &mut image),
+            3 => refuse_control(random, &mut image),
+            _ => refuse_device(random, &mut lent),
+        }
+    }
+    Request::PressAutoload {
+        store: image.listed(),
+        control: image.control,
+        devices: lent.devices,
+        characters: lent.characters,
+    }
+}
+
+fn key(random: &mut Random, reset: bool) -> Request {
+    let mut image = image_for_key(random);
     for number in refusals(random, 3) {
         match number {
             1 => refuse_size(random, &mut image),
@@ -128,8 +160,8 @@ fn remark(random: &mut Random) -> Case {
     }
 }
 
-/// The numbers of the refusals to bring about, 1 to `last`: mostly none, else
-/// one, two neighbours, or some.
+/// Which of a call's refusals to bring about, 1 to `last` in the order of its
+/// tests: mostly none, else one, two neighbours, or some.
 fn refusals(random: &mut Random, last: u32) -> Vec<u32> {
     if !random.one_in(8) {
         return Vec::new();

@@ -4,9 +4,12 @@
 #![warn(missing_docs)]
 
 mod coverage;
+mod device_events;
 mod generator;
+mod lent;
 mod machines;
 mod random;
+mod stretch;
 mod tapes;
 mod words;
 

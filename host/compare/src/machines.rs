@@ -1,7 +1,9 @@
 //! Random machines: a store and a control record.
 
 use crate::random::Random;
-use crate::words::{address, assemble, count, edge, float, float_near, instruction, word, WORD};
+use crate::words::{
+    address, assemble, count, device_address, edge, float, float_near, instruction, word, WORD,
+};
 use protocol::{Control, Listed};
 
 /// A machine. The cells of `low` come first, those of `high` last; all between
@@ -17,6 +19,8 @@ pub struct Image {
     pub control: Control,
     /// A loop for a long run.
     pub long: bool,
+    /// A program for the monitor.
+    monitor: bool,
 }
 
 /// How keys are given out.
@@ -93,6 +97,7 @@ pub fn image(random: &mut Random) -> Image {
         high: Vec::new(),
         control: started(),
         long: false,
+        monitor: false,
     };
     set_control(random, &mut image);
     for register in 0..4 {
@@ -121,6 +126,7 @@ fn largest(random: &mut Random) -> Image {
         high: (0..8).map(|_| word(random, 32)).collect(),
         control: started(),
         long: false,
+        monitor: false,
     };
     set_control(random, &mut image);
     image.control.ic = WORD - random.below(6);
@@ -175,7 +181,7 @@ fn set_keys(random: &mut Random, image: &mut Image) {
     let (allowed, forbidden): (Vec<u32>, Vec<u32>) =
         (0..8).partition(|&key| pr & (128 >> key) == 0);
     let mut keys = random.pick(&[Keys::Any, Keys::Task, Keys::Task, Keys::Monitor]);
-    if allowed.is_empty() {
+    if allowed.is_empty() || image.monitor && !random.one_in(4) {
         keys = Keys::Monitor;
     }
     image.control.monitor = match keys {
@@ -197,12 +203,13 @@ fn set_keys(random: &mut Random, image: &mut Image) {
 
 /// Puts what a case is about where IC points.
 fn set_scenario(random: &mut Random, image: &mut Image) {
-    match random.below(200) {
+    match random.below(250) {
         0 => long_loop(random, image),
         1..=39 => floating(random, image),
         40..=59 => integers(random, image),
         60..=69 => modifications(random, image),
         70..=129 => program(random, image),
+        130..=179 => input_output(random, image),
         _ => single(random, image),
     }
 }
@@ -227,6 +234,39 @@ fn program(random: &mut Random, image: &mut Image) {
                 code = random.pick(&[11, 20, 7, 23, 26, 36, 56]);
             }
             instruction_at(random, image, code, place)
+        })
+        .collect();
+    image.set_program(&program);
+}
+
+/// IO and AW, with instructions that bring and look at what they use; at times
+/// a loop that types what it reads.
+fn input_output(random: &mut Random, image: &mut Image) {
+    image.monitor = true;
+    if random.one_in(6) {
+        let w = random.below(4);
+        let io = |device, command| assemble(1, w, 0, 0, 64 * device + command);
+        let back = assemble(13, 0, 2, 0, -6);
+        return image.set_program(&[io(0, 2), io(0, 0), io(1, 3), back]);
+    }
+    let program: Vec<u32> = (0..random.between(1, 12) as u32)
+        .map(|place| match random.below(10) {
+            0..=4 => {
+                let d = device_address(random);
+                assemble(1, random.below(4), 0, 0, d)
+            }
+            5 if random.one_in(2) => {
+                let x = 1 + random.below(3);
+                let device = 1 << random.below(18) ^ random.below(2);
+                image.set_word(x as usize, device << 6);
+                assemble(1, random.below(4), 0, x, random.below(64) as i32)
+            }
+            5 => instruction_at(random, image, 1, place),
+            6 | 7 => instruction_at(random, image, 0, place),
+            _ => {
+                let code = random.pick(&[11, 20, 23, 27, 46]);
+                instruction_at(random, image, code, place)
+            }
         })
         .collect();
     image.set_program(&program);

@@ -73,6 +73,17 @@ pub fn count(random: &mut Random) -> i32 {
     }
 }
 
+/// An address for IO that a displacement can hold: device number, modifier and
+/// command, the device often one of the two that are there.
+pub fn device_address(random: &mut Random) -> i32 {
+    let device = random.pick(&[0, 0, 0, 0, 1, 1, 1, 1, 2, 3, 31, -1, -32]);
+    let modifier = match random.below(2) {
+        0 => 0,
+        _ => random.below(16) as i32,
+    };
+    64 * device + 4 * modifier + random.below(4) as i32
+}
+
 /// The word of an instruction.
 pub fn assemble(code: u32, w: u32, m: u32, x: u32, d: i32) -> u32 {
     (code << 18) | (w << 16) | (m << 14) | (x << 12) | (d as u32 & 0xfff)
@@ -97,7 +108,10 @@ pub fn instruction(random: &mut Random, code: u32, ic: u32, size: usize) -> u32 
             }
         }
         _ => {
-            let target = address(random, size) as i32;
+            let target = match code {
+                1 => device_address(random),
+                _ => address(random, size) as i32,
+            };
             if m >= 2 {
                 target - ic as i32
             } else {

@@ -1,7 +1,7 @@
 //! The emulation against itself, and against machines with one flaw each.
 
 use compare::{case, compare, Coverage};
-use protocol::{Control, Emulation, Kind, Machine, Outcome, Refusal, Report, Request};
+use protocol::{Control, Devices, Emulation, Kind, Machine, Outcome, Refusal, Report, Request};
 
 #[test]
 fn no_difference_and_nothing_missing() {
@@ -35,6 +35,20 @@ enum Flaw {
     StartKeyKeepsBit23,
     LoadsOneCellLess,
     Remark,
+    RefusalChangesReader,
+    RefusalChangesTypewriter,
+    RefusalChangesTyping,
+    Taken,
+    Typed,
+    TypesNothing,
+    ChangesBehindTyped,
+    ReaderRegister,
+    TypewriterRegister,
+    AutoloadKeepsKey,
+    AutoloadKeepsException,
+    AutoloadTakesNone,
+    AutoloadKeepsReader,
+    AutoloadRefusalChangesReader,
 }
 
 /// The emulation with one flaw.
@@ -52,6 +66,41 @@ impl Flawed {
     }
 }
 
+impl Flawed {
+    fn spoil_report(&self, report: &mut Report) {
+        match (self.0, report.outcome) {
+            (Flaw::Outcome, Outcome::Reset) => report.outcome = Outcome::Spent,
+            (Flaw::LineNumber, Outcome::Interrupted(Kind::Line(46))) => {
+                report.outcome = Outcome::Interrupted(Kind::Line(44));
+            }
+            (Flaw::Executed, Outcome::Spent) if report.executed == 7 => report.executed = 6,
+            (Flaw::Taken, _) if report.taken == 9 => report.taken = 8,
+            (Flaw::Typed, _) if report.typed == 3 => report.typed = 4,
+            _ => (),
+        }
+    }
+
+    fn spoil_typing(&self, report: &Report, given: &[u8], typing: &mut [u8]) {
+        match self.0 {
+            Flaw::TypesNothing => typing.copy_from_slice(given),
+            Flaw::ChangesBehindTyped if report.typed > 0 => {
+                typing[report.typed..].iter_mut().for_each(|byte| *byte = 0);
+            }
+            _ => (),
+        }
+    }
+
+    /// What a refused run does to what was lent for the devices.
+    fn spoil_refused(&self, devices: &mut Devices, typing: &mut [u8]) {
+        match self.0 {
+            Flaw::RefusalChangesReader => devices.reader ^= 1,
+            Flaw::RefusalChangesTypewriter => devices.typewriter ^= 1,
+            Flaw::RefusalChangesTyping => typing.iter_mut().for_each(|byte| *byte ^= 1),
+            _ => (),
+        }
+    }
+}
+
 impl Machine for Flawed {
     fn run(
         &self,
@@ -59,20 +108,25 @@ impl Machine for Flawed {
         control: &mut Control,
         lines: u32,
         budget: u32,
+        devices: &mut Devices,
+        characters: &[u8],
+        typing: &mut [u8],
     ) -> Result<Report, Refusal> {
-        let mut report = Emulation
-            .run(store, control, lines, budget)
-            .map_err(|refusal| self.refusal(refusal, store, control))?;
+        let (given, lent) = (typing.to_vec(), *devices);
+        let result = Emulation.run(store, control, lines, budget, devices, characters, typing);
+        let mut report = result.map_err(|refusal| {
+            self.spoil_refused(devices, typing);
+            self.refusal(refusal, store, control)
+        })?;
         match (self.0, report.outcome) {
-            (Flaw::Outcome, Outcome::Reset) => report.outcome = Outcome::Spent,
-            (Flaw::LineNumber, Outcome::Interrupted(Kind::Line(46))) => {
-                report.outcome = Outcome::Interrupted(Kind::Line(44));
-            }
-            (Flaw::Executed, Outcome::Spent) if report.executed == 7 => report.executed = 6,
             (Flaw::Cell, Outcome::Spent) if report.executed > 2 => store[7] ^= 1 << 26,
             (Flaw::Carry, Outcome::Spent) if report.executed > 2 => control.ex &= 6,
+            (Flaw::ReaderRegister, _) => devices.reader = lent.reader,
+            (Flaw::TypewriterRegister, _) => devices.typewriter &= 255,
             _ => (),
         }
+        self.spoil_typing(&report, &given, typing);
+        self.spoil_report(&mut report);
         Ok(report)
     }
 
@@ -96,6 +150,32 @@ impl Machine for Flawed {
             control.ic |= store[7] & 1;
         }
         Ok(())
+    }
+
+    fn press_autoload(
+        &self,
+        store: &mut [u32],
+        control: &mut Control,
+        devices: &mut Devices,
+        characters: &[u8],
+    ) -> Result<usize, Refusal> {
+        let (key, ex) = (store.first().map_or(0, |cell| cell >> 24 << 24), control.ex);
+        let lent = *devices;
+        let result = Emulation.press_autoload(store, control, devices, characters);
+        let taken = result.map_err(|refusal| {
+            if let Flaw::AutoloadRefusalChangesReader = self.0 {
+                devices.reader ^= 1;
+            }
+            self.refusal(refusal, store, control)
+        })?;
+        match self.0 {
+            Flaw::AutoloadKeepsKey => store[0] |= key,
+            Flaw::AutoloadKeepsException => control.ex = ex,
+            Flaw::AutoloadTakesNone => return Ok(0),
+            Flaw::AutoloadKeepsReader => *devices = lent,
+            _ => (),
+        }
+        Ok(taken)
     }
 
     fn load(&self, store: &mut [u32], control: &mut Control, tape: &[u8]) -> Result<(), Refusal> {
@@ -134,6 +214,20 @@ fn every_flaw_is_found() {
         Flaw::StartKeyKeepsBit23,
         Flaw::LoadsOneCellLess,
         Flaw::Remark,
+        Flaw::RefusalChangesReader,
+        Flaw::RefusalChangesTypewriter,
+        Flaw::RefusalChangesTyping,
+        Flaw::Taken,
+        Flaw::Typed,
+        Flaw::TypesNothing,
+        Flaw::ChangesBehindTyped,
+        Flaw::ReaderRegister,
+        Flaw::TypewriterRegister,
+        Flaw::AutoloadKeepsKey,
+        Flaw::AutoloadKeepsException,
+        Flaw::AutoloadTakesNone,
+        Flaw::AutoloadKeepsReader,
+        Flaw::AutoloadRefusalChangesReader,
     ];
     for flaw in flaws {
         let mut coverage = Coverage::default();

@@ -1,6 +1,7 @@
 //! One cycle: interruption service, instruction fetch, decode (14.5, 14.6).
 
 use crate::bits::{add_address, bit, extend_byte};
+use crate::channel::Channel;
 use crate::control::Control;
 use crate::run::Kind;
 use crate::store::Store;
@@ -19,10 +20,11 @@ pub struct Exception;
 /// What an instruction's steps end in.
 pub type Step = Result<(), Exception>;
 
-/// The central processor with its lent store.
+/// The central processor with its lent store and the low-speed channel.
 pub struct Processor<'a> {
     pub store: Store<'a>,
     pub control: Control,
+    pub channel: Channel<'a>,
 }
 
 /// What the fetch leaves in FR, SB and AR.
@@ -36,10 +38,11 @@ struct Fetched {
 }
 
 impl<'a> Processor<'a> {
-    pub fn new(cells: &'a mut [u32], control: Control) -> Self {
+    pub fn new(cells: &'a mut [u32], control: Control, channel: Channel<'a>) -> Self {
         Processor {
             store: Store::new(cells),
             control,
+            channel,
         }
     }
 

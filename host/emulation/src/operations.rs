@@ -2,6 +2,7 @@
 //! instructions that are neither arithmetic nor shifts.
 
 use crate::bits::{add_address, bit, extend_byte, signed_word, BYTE};
+use crate::channel::{device_number, Command};
 use crate::cycle::{Exception, Processor, Step};
 use crate::store::{first_word, register_before};
 
@@ -9,8 +10,8 @@ impl Processor<'_> {
     /// `goto operation(FR(0:5))`. `w` is FR(6:7), `sb` the effective address.
     pub fn execute(&mut self, operation: u32, w: u32, sb: u32) -> Step {
         match operation {
-            0 => self.autoload_word(),
-            1 => self.input_output(),
+            0 => self.autoload_word(sb),
+            1 => self.input_output(w, sb),
             2 => self.load_integer_byte(w, sb),
             3 => self.load_half_register(w, sb),
             4 => self.combine(w, sb, |register, word| register & word),
@@ -264,17 +265,44 @@ impl Processor<'_> {
         Ok(())
     }
 
-    /// IO: every device is disconnected (8.4).
-    fn input_output(&mut self) -> Step {
+    /// IO: EX 22 tells a disconnected device, for which nothing else is done. No
+    /// device is busy, and control does nothing (02, E1).
+    fn input_output(&mut self, w: u32, sb: u32) -> Step {
         self.test_mode()?;
-        self.control.ex = (self.control.ex & 4) | 2;
+        let (device, command) = (device_number(sb), Command::from_address(sb));
+        let disconnected = self.channel.is_disconnected(device, command);
+        self.control.ex = (self.control.ex & 4) | (u32::from(disconnected) << 1);
+        if disconnected {
+            return Ok(());
+        }
+        match command {
+            Command::Sense => self.store.set_register(w, self.channel.buffer(device)),
+            Command::Control => (),
+            Command::Read => self.channel.read(device),
+            Command::Write => self.channel.write(device, self.store.register(w)),
+        }
         Ok(())
     }
 
-    /// AW: the loading device is disconnected, so the machine is reset (11.5).
-    fn autoload_word(&mut self) -> Step {
+    /// AW: four characters are read before the address is tested. Where the
+    /// reader has fewer, the machine is reset (11.5; 02, E1).
+    fn autoload_word(&mut self, sb: u32) -> Step {
         self.test_mode()?;
-        self.reset_system();
+        match self.input_word() {
+            Some(word) => {
+                self.test_address(sb)?;
+                self.store.set_loaded(sb, word);
+            }
+            None => self.reset_system(),
+        }
         Ok(())
+    }
+
+    /// Four characters of the reader as a word, with `EX(22:23) := 0`; nothing
+    /// changes where fewer are left.
+    pub fn input_word(&mut self) -> Option<u32> {
+        let word = self.channel.read_word()?;
+        self.control.ex &= 4;
+        Some(word)
     }
 }

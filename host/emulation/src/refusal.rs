@@ -1,8 +1,8 @@
-//! The refusals of document 01 and their numbers.
+//! The refusals of documents 01 and 02 and their numbers.
 
 use std::fmt;
 
-/// Why a call was refused. Store and control record stay as given.
+/// Why a call was refused. All that was lent stays as given.
 #[derive(Clone, Copy, Debug, PartialEq, Eq, Hash)]
 pub enum Refusal {
     /// 1: fewer than 8 or more than 8,388,608 cells.
@@ -29,15 +29,17 @@ pub enum Refusal {
     RecordOrder = 11,
     /// 12: a tape of over 65,536 bytes.
     TapeLength = 12,
+    /// 13: a reader character over 63 or a device buffer register over 24 bits.
+    Device = 13,
 }
 
 impl Refusal {
-    /// Document 01's number.
+    /// The number that the papers give it.
     pub const fn number(self) -> u32 {
         self as u32
     }
 
-    /// The refusal with document 01's `number`.
+    /// The refusal with this number.
     pub fn from_number(number: u32) -> Option<Self> {
         use Refusal::*;
         let all = [
@@ -53,6 +55,7 @@ impl Refusal {
             BlockCell,
             RecordOrder,
             TapeLength,
+            Device,
         ];
         all.into_iter().find(|refusal| refusal.number() == number)
     }

@@ -96,6 +96,11 @@ impl<'a> Store<'a> {
         *cell = ((key & 7) << 24) | (*cell & WORD);
     }
 
+    /// `word(address) := word; protection key(address) := 0`.
+    pub fn set_loaded(&mut self, address: u32, word: u32) {
+        *self.cell_mut(address) = word & WORD;
+    }
+
     /// Working register `number`, the word of cell `number`.
     pub fn register(&self, number: u32) -> u32 {
         self.word(2 * number)

@@ -2,11 +2,9 @@
 
 mod common;
 
-use common::{bit, instruction, Machine};
-use emulation::{press_reset, press_start, run, Control, Kind, Outcome, Refusal};
+use common::{bit, instruction, run_alone, Machine};
+use emulation::{press_reset, press_start, run, Control, Devices, Kind, Outcome, Refusal};
 
-const AW: u32 = 0;
-const IO: u32 = 1;
 const AM: u32 = 9;
 const AL: u32 = 11;
 const JL: u32 = 13;
@@ -206,24 +204,6 @@ fn an_am_that_leaves_0_does_not_hide_the_lines() {
 }
 
 #[test]
-fn aw_resets() {
-    let mut machine = Machine::new();
-    let report = machine.execute(instruction(AW, 0, 0, 0, 4000));
-    assert_eq!(report.outcome, Outcome::Reset);
-    assert_eq!((report.executed, report.entries), (1, 0));
-    assert_eq!(machine.store[5], 18);
-    assert!(machine.control.reset);
-}
-
-#[test]
-fn io_finds_no_device() {
-    let mut machine = Machine::new();
-    machine.control.ex = 5;
-    machine.execute(instruction(IO, 0, 0, 0, 66));
-    assert_eq!(machine.control.ex, 6);
-}
-
-#[test]
 fn links_and_skips() {
     let mut machine = Machine::new();
     machine.execute(instruction(JL, 3, 0, 0, 41));
@@ -303,17 +283,32 @@ fn keys() {
 fn a_run_in_the_reset_state_takes_the_lines() {
     let mut store = [0; 8];
     let mut control = Control::fresh();
-    let report = run(&mut store, &mut control, bit(9), 0).unwrap();
+    let report = run_alone(&mut store, &mut control, bit(9), 0).unwrap();
     assert_eq!(report.outcome, Outcome::Reset);
     assert_eq!(control.ir, bit(9));
 }
 
-/// A run with too large a budget that is refused and changes nothing.
+/// A run with too large a budget, too large a character and too wide a device
+/// buffer register that is refused and changes nothing.
 fn refused(store: &[u32], control: Control, lines: u32, refusal: Refusal) {
     let (mut cells, mut after) = (store.to_vec(), control);
-    let answer = run(&mut cells, &mut after, lines, 65_536);
+    let given = Devices {
+        reader: 1 << 24,
+        typewriter: u32::MAX,
+    };
+    let (mut devices, mut typing) = (given, [5, 6]);
+    let answer = run(
+        &mut cells,
+        &mut after,
+        lines,
+        65_536,
+        &mut devices,
+        &[64],
+        &mut typing,
+    );
     assert_eq!(answer, Err(refusal));
     assert_eq!((&cells[..], after), (store, control));
+    assert_eq!((devices, typing), (given, [5, 6]));
 }
 
 #[test]

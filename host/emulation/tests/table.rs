@@ -2,8 +2,8 @@
 
 mod common;
 
-use common::{bit, instruction, Machine};
-use emulation::{run, Control, Kind, Outcome, Refusal};
+use common::{bit, instruction, run_alone, Machine};
+use emulation::{Control, Kind, Outcome, Refusal};
 
 const AL: u32 = 11;
 const WA: u32 = 7;
@@ -88,7 +88,7 @@ fn relative_address_wraps() {
         ..Control::fresh()
     };
     store[8_388_607] = instruction(AL, 0, 2, 0, 4);
-    run(&mut store, &mut control, 0, 1).unwrap();
+    run_alone(&mut store, &mut control, 0, 1).unwrap();
     assert_eq!(store[0], 2);
     assert_eq!(control.ic, 0);
 }
@@ -133,10 +133,10 @@ fn left_most_line_first() {
 fn eight_cells_pass_and_seven_do_not() {
     let mut control = Control::fresh();
     assert_eq!(
-        run(&mut [0; 7], &mut control, 0, 0),
+        run_alone(&mut [0; 7], &mut control, 0, 0),
         Err(Refusal::StoreSize)
     );
-    assert!(run(&mut [0; 8], &mut control, 0, 0).is_ok());
+    assert!(run_alone(&mut [0; 8], &mut control, 0, 0).is_ok());
 }
 
 #[test]
@@ -153,7 +153,7 @@ fn byte_15_of_eight_cells_exists_and_16_does_not() {
             reset: false,
             ..Control::fresh()
         };
-        let report = run(&mut store, &mut control, 0, 1).unwrap();
+        let report = run_alone(&mut store, &mut control, 0, 1).unwrap();
         assert_eq!(report.outcome, outcome);
     }
 }
@@ -162,9 +162,9 @@ fn byte_15_of_eight_cells_exists_and_16_does_not() {
 fn budget_65535_passes_and_65536_does_not() {
     let mut store = vec![0; 8];
     let mut control = Control::fresh();
-    assert!(run(&mut store, &mut control, 0, 65_535).is_ok());
+    assert!(run_alone(&mut store, &mut control, 0, 65_535).is_ok());
     assert_eq!(
-        run(&mut store, &mut control, 0, 65_536),
+        run_alone(&mut store, &mut control, 0, 65_536),
         Err(Refusal::Budget)
     );
 }

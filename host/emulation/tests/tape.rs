@@ -1,6 +1,9 @@
 //! Load tapes, their refusals and the remark.
 
-use emulation::{load, remark, run, Control, Outcome, Refusal};
+mod common;
+
+use common::run_alone;
+use emulation::{load, remark, Control, Outcome, Refusal};
 
 fn record(kind: u16, payload: &[u8]) -> Vec<u8> {
     let mut bytes = (payload.len() as u32).to_le_bytes().to_vec();
@@ -57,7 +60,7 @@ fn the_tape_of_the_paper() {
     };
     load(&mut store, &mut control, &tape).unwrap();
     assert_eq!(control, Control::fresh());
-    let report = run(&mut store, &mut control, 0, 100).unwrap();
+    let report = run_alone(&mut store, &mut control, 0, 100).unwrap();
     assert_eq!(report.outcome, Outcome::Reset);
     assert_eq!((report.executed, report.entries, control.ic), (0, 0, 0));
     assert_eq!(remark(&tape, 4096), Ok(None));

@@ -1,7 +1,7 @@
 //! Answers and their lines.
 
-use crate::request::{write_cells, write_control};
-use emulation::{Control, Kind, Outcome, Refusal, Report};
+use crate::request::{write_bytes, write_cells, write_control, write_devices};
+use emulation::{Control, Devices, Kind, Outcome, Refusal, Report};
 use std::fmt;
 use std::ops::Range;
 
@@ -17,8 +17,23 @@ pub enum Answer {
         control: Control,
         /// The changed cells.
         changed: Vec<(usize, u32)>,
+        /// The device buffer registers after it.
+        devices: Devices,
+        /// The whole typing buffer after it.
+        typing: Vec<u8>,
     },
-    /// A key that was pressed or a tape that was loaded.
+    /// The autoload key that was pressed.
+    Autoload {
+        /// The control record after it.
+        control: Control,
+        /// The changed cells.
+        changed: Vec<(usize, u32)>,
+        /// How many characters it took.
+        taken: usize,
+        /// The device buffer registers after it.
+        devices: Devices,
+    },
+    /// Another key that was pressed or a tape that was loaded.
     Done {
         /// The control record after it.
         control: Control,
@@ -27,12 +42,35 @@ pub enum Answer {
     },
     /// The part of the tape that is its first remark, or none.
     Remark(Option<Range<usize>>),
-    /// A refusal; store and control record came back as given.
+    /// A refusal; all that was lent came back as given.
     Refused(Refusal),
     /// A refusal that changed something, which no machine should give.
     RefusedAndChanged(Refusal),
+    /// A call that took or typed more than was lent, or changed the typing
+    /// buffer behind what it typed, which no machine should give.
+    BeyondLent,
     /// A request that cannot be read.
     Bad,
+}
+
+/// Writes control record and changed cells.
+fn write_machine(
+    formatter: &mut fmt::Formatter,
+    control: &Control,
+    changed: &[(usize, u32)],
+) -> fmt::Result {
+    write_control(formatter, control)?;
+    write!(formatter, " ")?;
+    write_cells(formatter, changed)
+}
+
+fn write_outcome(formatter: &mut fmt::Formatter, outcome: Outcome) -> fmt::Result {
+    match outcome {
+        Outcome::Spent => write!(formatter, "spent"),
+        Outcome::Reset => write!(formatter, "reset"),
+        Outcome::Interrupted(Kind::Exception) => write!(formatter, "exception"),
+        Outcome::Interrupted(Kind::Line(number)) => write!(formatter, "line:{number}"),
+    }
 }
 
 impl fmt::Display for Answer {
@@ -42,28 +80,37 @@ impl fmt::Display for Answer {
                 report,
                 control,
                 changed,
+                devices,
+                typing,
             } => {
-                match report.outcome {
-                    Outcome::Spent => write!(formatter, "spent"),
-                    Outcome::Reset => write!(formatter, "reset"),
-                    Outcome::Interrupted(Kind::Exception) => write!(formatter, "exception"),
-                    Outcome::Interrupted(Kind::Line(number)) => write!(formatter, "line:{number}"),
-                }?;
+                write_outcome(formatter, report.outcome)?;
                 write!(formatter, " {} {} ", report.executed, report.entries)?;
-                write_control(formatter, control)?;
+                write_machine(formatter, control, changed)?;
+                write!(formatter, " {} {} ", report.taken, report.typed)?;
+                write_devices(formatter, devices)?;
                 write!(formatter, " ")?;
-                write_cells(formatter, changed)
+                write_bytes(formatter, typing)
+            }
+            Answer::Autoload {
+                control,
+                changed,
+                taken,
+                devices,
+            } => {
+                write!(formatter, "ok ")?;
+                write_machine(formatter, control, changed)?;
+                write!(formatter, " {taken} ")?;
+                write_devices(formatter, devices)
             }
             Answer::Done { control, changed } => {
                 write!(formatter, "ok ")?;
-                write_control(formatter, control)?;
-                write!(formatter, " ")?;
-                write_cells(formatter, changed)
+                write_machine(formatter, control, changed)
             }
             Answer::Remark(None) => write!(formatter, "none"),
             Answer::Remark(Some(text)) => write!(formatter, "at {} {}", text.start, text.end),
             Answer::Refused(refusal) => write!(formatter, "{refusal}"),
             Answer::RefusedAndChanged(refusal) => write!(formatter, "{refusal} and changed"),
+            Answer::BeyondLent => write!(formatter, "beyond what was lent"),
             Answer::Bad => write!(formatter, "bad"),
         }
     }

@@ -2,8 +2,8 @@
 
 use crate::answer::Answer;
 use crate::machine::Machine;
-use crate::request::{Listed, Request};
-use emulation::{Control, Refusal, MAXIMUM_CELLS};
+use crate::request::{Listed, Request, Run};
+use emulation::{Control, Devices, Refusal, Report, MAXIMUM_CELLS};
 use std::io::{BufRead, Write};
 use std::ops::Range;
 
@@ -50,12 +50,13 @@ impl<M: Machine> FrontEnd<M> {
     /// The answer to a request.
     pub fn answer(&mut self, request: &Request) -> Answer {
         match request {
-            Request::Run {
+            Request::Run(run) => self.run(run),
+            Request::PressAutoload {
                 store,
                 control,
-                lines,
-                budget,
-            } => self.run(store, *control, *lines, *budget),
+                devices,
+                characters,
+            } => self.autoload(store, *control, *devices, characters),
             Request::PressReset { store, control } => {
                 self.change(store, *control, |machine, cells, control| {
                     machine.press_reset(cells, control)
@@ -78,20 +79,63 @@ impl<M: Machine> FrontEnd<M> {
         }
     }
 
-    fn run(&mut self, listed: &Listed, given: Control, lines: u32, budget: u32) -> Answer {
-        let size = self.lay_out(listed);
-        let mut control = given;
-        let result = self
-            .machine
-            .run(&mut self.store[..size], &mut control, lines, budget);
-        let changed = self.collect_changes(listed, size);
+    fn run(&mut self, given: &Run) -> Answer {
+        let size = self.lay_out(&given.store);
+        let (mut control, mut devices) = (given.control, given.devices);
+        let mut typing = given.typing.clone();
+        let result = self.machine.run(
+            &mut self.store[..size],
+            &mut control,
+            given.lines,
+            given.budget,
+            &mut devices,
+            &given.characters,
+            &mut typing,
+        );
+        let changed = self.collect_changes(&given.store, size);
         match result {
+            Ok(report) if !keeps_to_lent(given, &report, &typing) => Answer::BeyondLent,
             Ok(report) => Answer::Run {
                 report,
                 control,
                 changed,
+                devices,
+                typing,
             },
-            Err(refusal) => refused(refusal, given == control && changed.is_empty()),
+            Err(refusal) => {
+                let kept = (control, devices) == (given.control, given.devices);
+                let as_given = kept && changed.is_empty() && typing == given.typing;
+                refused(refusal, as_given)
+            }
+        }
+    }
+
+    fn autoload(
+        &mut self,
+        listed: &Listed,
+        given: Control,
+        lent: Devices,
+        characters: &[u8],
+    ) -> Answer {
+        let size = self.lay_out(listed);
+        let (mut control, mut devices) = (given, lent);
+        let store = &mut self.store[..size];
+        let result = self
+            .machine
+            .press_autoload(store, &mut control, &mut devices, characters);
+        let changed = self.collect_changes(listed, size);
+        match result {
+            Ok(taken) if taken > characters.len() => Answer::BeyondLent,
+            Ok(taken) => Answer::Autoload {
+                control,
+                changed,
+                taken,
+                devices,
+            },
+            Err(refusal) => {
+                let kept = (control, devices) == (given, lent);
+                refused(refusal, kept && changed.is_empty())
+            }
         }
     }
 
@@ -153,6 +197,14 @@ impl<M: Machine> FrontEnd<M> {
         changed.sort_unstable_by_key(|&(index, _)| index);
         changed
     }
+}
+
+/// Whether a run took and typed no more than was lent and kept the bytes of the
+/// typing buffer behind those it typed.
+fn keeps_to_lent(given: &Run, report: &Report, typing: &[u8]) -> bool {
+    report.taken <= given.characters.len()
+        && report.typed <= typing.len()
+        && typing[report.typed..] == given.typing[report.typed..]
 }
 
 fn refused(refusal: Refusal, as_given: bool) -> Answer {

@@ -3,12 +3,15 @@
 //! Numbers are decimal, fields are separated by one space. `cells` is a list
 //! `i=v,i=v,..` of the cells that are not zero, `-` for none; `ctl` is nine
 //! fields, `ic ir im pending pr ex monitor enabled reset`, the last three 0 or
-//! 1; `tape` is lower-case hex, `-` for no byte.
+//! 1; `tape` is lower-case hex, `-` for no byte. `dev0 dev1` are the device
+//! buffer registers, `chars` the reader's characters in hex, `typing` the typing
+//! buffer with what it holds, in an answer the whole buffer after the run.
 //!
 //! | request | answer |
 //! |---|---|
-//! | `run N cells ctl lines budget` | `OUTCOME executed entries ctl changed` |
+//! | `run N cells ctl lines budget dev0 dev1 chars typing` | `OUTCOME executed entries ctl changed taken typed dev0 dev1 typing` |
 //! | `keyreset N cells ctl`, `keystart N cells ctl` | `ok ctl changed` |
+//! | `keyautoload N cells ctl dev0 dev1 chars` | `ok ctl changed taken dev0 dev1` |
 //! | `load N cells tape` | `ok ctl changed` |
 //! | `remark N tape` | `none` or `at S E` |
 //!
@@ -27,9 +30,9 @@ mod proved;
 mod request;
 
 pub use answer::Answer;
-pub use emulation::{Control, Kind, Outcome, Refusal, Report};
+pub use emulation::{Control, Devices, Kind, Outcome, Refusal, Report};
 pub use front_end::{serve, FrontEnd};
 pub use machine::{Emulation, Machine};
 #[cfg(feature = "proved")]
 pub use proved::Proved;
-pub use request::{Bad, Listed, Request};
+pub use request::{Bad, Listed, Request, Run};

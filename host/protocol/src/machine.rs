@@ -1,17 +1,20 @@
-//! What answers a request: the five calls of a machine.
+//! What answers a request: the six calls of a machine.
 
-use emulation::{Control, Refusal, Report};
+use emulation::{Control, Devices, Refusal, Report};
 
-/// The calls of a machine. On a refusal, store and control record come back
-/// as given.
+/// The calls of a machine. On a refusal, all that was lent comes back as given.
 pub trait Machine {
     /// Runs at most `budget` cycles.
+    #[allow(clippy::too_many_arguments)]
     fn run(
         &self,
         store: &mut [u32],
         control: &mut Control,
         lines: u32,
         budget: u32,
+        devices: &mut Devices,
+        characters: &[u8],
+        typing: &mut [u8],
     ) -> Result<Report, Refusal>;
 
     /// The reset key.
@@ -19,6 +22,15 @@ pub trait Machine {
 
     /// The start key.
     fn press_start(&self, store: &mut [u32], control: &mut Control) -> Result<(), Refusal>;
+
+    /// The autoload key; hands back how many characters it took.
+    fn press_autoload(
+        &self,
+        store: &mut [u32],
+        control: &mut Control,
+        devices: &mut Devices,
+        characters: &[u8],
+    ) -> Result<usize, Refusal>;
 
     /// Loads a tape.
     fn load(&self, store: &mut [u32], control: &mut Control, tape: &[u8]) -> Result<(), Refusal>;
@@ -37,8 +49,11 @@ impl Machine for Emulation {
         control: &mut Control,
         lines: u32,
         budget: u32,
+        devices: &mut Devices,
+        characters: &[u8],
+        typing: &mut [u8],
     ) -> Result<Report, Refusal> {
-        emulation::run(store, control, lines, budget)
+        emulation::run(store, control, lines, budget, devices, characters, typing)
     }
 
     fn press_reset(&self, store: &mut [u32], control: &mut Control) -> Result<(), Refusal> {
@@ -47,6 +62,16 @@ impl Machine for Emulation {
 
     fn press_start(&self, store: &mut [u32], control: &mut Control) -> Result<(), Refusal> {
         emulation::press_start(store, control)
+    }
+
+    fn press_autoload(
+        &self,
+        store: &mut [u32],
+        control: &mut Control,
+        devices: &mut Devices,
+        characters: &[u8],
+    ) -> Result<usize, Refusal> {
+        emulation::press_autoload(store, control, devices, characters)
     }
 
     fn load(&self, store: &mut [u32], control: &mut Control, tape: &[u8]) -> Result<(), Refusal> {

@@ -1,7 +1,7 @@
 //! The proved library as a machine.
 
 use crate::machine::Machine;
-use emulation::{Control, Kind, Outcome, Refusal, Report};
+use emulation::{Control, Devices, Kind, Outcome, Refusal, Report};
 
 /// The proved library.
 pub struct Proved;
@@ -62,6 +62,23 @@ fn call<T>(
     result.map_err(refusal)
 }
 
+/// Makes a call of the library on the library's kind of control record and of
+/// device buffer registers.
+fn call_with_devices<T>(
+    control: &mut Control,
+    devices: &mut Devices,
+    made: impl FnOnce(&mut rc4000::Control, &mut rc4000::Devices) -> Result<T, rc4000::Refusal>,
+) -> Result<T, Refusal> {
+    let mut library_devices = rc4000::Devices {
+        reader: devices.reader,
+        typewriter: devices.typewriter,
+    };
+    let result = call(control, |control| made(control, &mut library_devices));
+    devices.reader = library_devices.reader;
+    devices.typewriter = library_devices.typewriter;
+    result
+}
+
 impl Machine for Proved {
     fn run(
         &self,
@@ -69,14 +86,19 @@ impl Machine for Proved {
         control: &mut Control,
         lines: u32,
         budget: u32,
+        devices: &mut Devices,
+        characters: &[u8],
+        typing: &mut [u8],
     ) -> Result<Report, Refusal> {
-        let report = call(control, |control| {
-            rc4000::run(store, control, lines, budget)
+        let report = call_with_devices(control, devices, |control, devices| {
+            rc4000::run(store, control, lines, budget, devices, characters, typing)
         })?;
         Ok(Report {
             outcome: outcome(report.outcome),
             executed: report.executed,
             entries: report.entries,
+            taken: report.taken,
+            typed: report.typed,
         })
     }
 
@@ -86,6 +108,18 @@ impl Machine for Proved {
 
     fn press_start(&self, store: &mut [u32], control: &mut Control) -> Result<(), Refusal> {
         call(control, |control| rc4000::press_start(store, control))
+    }
+
+    fn press_autoload(
+        &self,
+        store: &mut [u32],
+        control: &mut Control,
+        devices: &mut Devices,
+        characters: &[u8],
+    ) -> Result<usize, Refusal> {
+        call_with_devices(control, devices, |control, devices| {
+            rc4000::press_autoload(store, control, devices, characters)
+        })
     }
 
     fn load(&self, store: &mut [u32], control: &mut Control, tape: &[u8]) -> Result<(), Refusal> {

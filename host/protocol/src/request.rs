@@ -1,6 +1,6 @@
 //! Requests, and how a line is read as one.
 
-use emulation::Control;
+use emulation::{Control, Devices};
 use std::fmt;
 
 /// A request that cannot be read.
@@ -17,20 +17,30 @@ pub struct Listed {
     pub cells: Vec<(usize, u32)>,
 }
 
+/// What a run is given.
+#[derive(Clone, Debug, PartialEq, Eq)]
+pub struct Run {
+    /// The store.
+    pub store: Listed,
+    /// The control record.
+    pub control: Control,
+    /// Raised lines.
+    pub lines: u32,
+    /// The most cycles.
+    pub budget: u32,
+    /// The device buffer registers.
+    pub devices: Devices,
+    /// The characters in the reader.
+    pub characters: Vec<u8>,
+    /// The typing buffer with what it holds.
+    pub typing: Vec<u8>,
+}
+
 /// One line of requests.
 #[derive(Clone, Debug, PartialEq, Eq)]
 pub enum Request {
-    /// `run N cells ctl lines budget`.
-    Run {
-        /// The store.
-        store: Listed,
-        /// The control record.
-        control: Control,
-        /// Raised lines.
-        lines: u32,
-        /// The most cycles.
-        budget: u32,
-    },
+    /// `run N cells ctl lines budget dev0 dev1 chars typing`.
+    Run(Run),
     /// `keyreset N cells ctl`.
     PressReset {
         /// The store.
@@ -44,6 +54,17 @@ pub enum Request {
         store: Listed,
         /// The control record.
         control: Control,
+    },
+    /// `keyautoload N cells ctl dev0 dev1 chars`.
+    PressAutoload {
+        /// The store.
+        store: Listed,
+        /// The control record.
+        control: Control,
+        /// The device buffer registers.
+        devices: Devices,
+        /// The characters in the reader.
+        characters: Vec<u8>,
     },
     /// `load N cells tape`.
     Load {
@@ -66,12 +87,7 @@ impl Request {
     pub fn parse(line: &str) -> Result<Self, Bad> {
         let fields: Vec<&str> = line.split(' ').collect();
         match fields[..] {
-            ["run", size, cells, ref control @ .., lines, budget] => Ok(Request::Run {
-                store: listed(size, cells)?,
-                control: control_fields(control)?,
-                lines: number(lines)?,
-                budget: number(budget)?,
-            }),
+            ["run", ref fields @ ..] => run(fields).map(Request::Run),
             ["keyreset", size, cells, ref control @ ..] => Ok(Request::PressReset {
                 store: listed(size, cells)?,
                 control: control_fields(control)?,
@@ -80,6 +96,14 @@ impl Request {
                 store: listed(size, cells)?,
                 control: control_fields(control)?,
             }),
+            ["keyautoload", size, cells, ref control @ .., reader, typewriter, characters] => {
+                Ok(Request::PressAutoload {
+                    store: listed(size, cells)?,
+                    control: control_fields(control)?,
+                    devices: devices(reader, typewriter)?,
+                    characters: bytes(characters)?,
+                })
+            }
             ["load", size, cells, tape] => Ok(Request::Load {
                 store: listed(size, cells)?,
                 tape: bytes(tape)?,
@@ -91,6 +115,31 @@ impl Request {
             _ => Err(Bad),
         }
     }
+}
+
+/// The fields of a run after its name.
+fn run(fields: &[&str]) -> Result<Run, Bad> {
+    let [size, cells, ref control @ .., lines, budget, reader, typewriter, characters, typing] =
+        *fields
+    else {
+        return Err(Bad);
+    };
+    Ok(Run {
+        store: listed(size, cells)?,
+        control: control_fields(control)?,
+        lines: number(lines)?,
+        budget: number(budget)?,
+        devices: devices(reader, typewriter)?,
+        characters: bytes(characters)?,
+        typing: bytes(typing)?,
+    })
+}
+
+fn devices(reader: &str, typewriter: &str) -> Result<Devices, Bad> {
+    Ok(Devices {
+        reader: number(reader)?,
+        typewriter: number(typewriter)?,
+    })
 }
 
 /// A decimal number.
@@ -199,11 +248,18 @@ pub(crate) fn write_control(formatter: &mut fmt::Formatter, control: &Control) -
     )
 }
 
-fn write_tape(formatter: &mut fmt::Formatter, tape: &[u8]) -> fmt::Result {
-    if tape.is_empty() {
+/// Writes the two device buffer registers.
+pub(crate) fn write_devices(formatter: &mut fmt::Formatter, devices: &Devices) -> fmt::Result {
+    write!(formatter, "{} {}", devices.reader, devices.typewriter)
+}
+
+/// Writes bytes as lower-case hex, or `-`.
+pub(crate) fn write_bytes(formatter: &mut fmt::Formatter, bytes: &[u8]) -> fmt::Result {
+    if bytes.is_empty() {
         return write!(formatter, "-");
     }
-    tape.iter()
+    bytes
+        .iter()
         .try_for_each(|byte| write!(formatter, "{byte:02x}"))
 }
 
@@ -217,20 +273,25 @@ impl fmt::Display for Listed {
     }
 }
 
+impl fmt::Display for Run {
+    /// The fields after the name.
+    fn fmt(&self, formatter: &mut fmt::Formatter) -> fmt::Result {
+        write!(formatter, "{} ", self.store)?;
+        write_control(formatter, &self.control)?;
+        write!(formatter, " {} {} ", self.lines, self.budget)?;
+        write_devices(formatter, &self.devices)?;
+        write!(formatter, " ")?;
+        write_bytes(formatter, &self.characters)?;
+        write!(formatter, " ")?;
+        write_bytes(formatter, &self.typing)
+    }
+}
+
 impl fmt::Display for Request {
     /// The line that parses as this request.
     fn fmt(&self, formatter: &mut fmt::Formatter) -> fmt::Result {
         match self {
-            Request::Run {
-                store,
-                control,
-                lines,
-                budget,
-            } => {
-                write!(formatter, "run {store} ")?;
-                write_control(formatter, control)?;
-                write!(formatter, " {lines} {budget}")
-            }
+            Request::Run(run) => write!(formatter, "run {run}"),
             Request::PressReset { store, control } => {
                 write!(formatter, "keyreset {store} ")?;
                 write_control(formatter, control)
@@ -239,13 +300,26 @@ impl fmt::Display for Request {
                 write!(formatter, "keystart {store} ")?;
                 write_control(formatter, control)
             }
+            Request::PressAutoload {
+                store,
+                control,
+                devices,
+                characters,
+            } => {
+                write!(formatter, "keyautoload {store} ")?;
+                write_control(formatter, control)?;
+                write!(formatter, " ")?;
+                write_devices(formatter, devices)?;
+                write!(formatter, " ")?;
+                write_bytes(formatter, characters)
+            }
             Request::Load { store, tape } => {
                 write!(formatter, "load {store} ")?;
-                write_tape(formatter, tape)
+                write_bytes(formatter, tape)
             }
             Request::Remark { cells, tape } => {
                 write!(formatter, "remark {cells} ")?;
-                write_tape(formatter, tape)
+                write_bytes(formatter, tape)
             }
         }
     }

@@ -11,7 +11,7 @@ fn vectors(name: &str) -> String {
 
 #[test]
 fn stored_answers() {
-    let (cases, answers) = (vectors("base.cases"), vectors("base.answers"));
+    let (cases, answers) = (vectors("e1.cases"), vectors("e1.answers"));
     let mut output = Vec::new();
     serve(Emulation, cases.as_bytes(), &mut output).unwrap();
     let output = String::from_utf8(output).unwrap();
@@ -23,7 +23,7 @@ fn stored_answers() {
 
 #[test]
 fn requests_print_as_they_are_read() {
-    for line in vectors("base.cases").lines() {
+    for line in vectors("e1.cases").lines() {
         let request = Request::parse(line).unwrap();
         assert_eq!(Request::parse(&request.to_string()), Ok(request));
     }
@@ -35,9 +35,16 @@ fn bad_requests() {
     for line in [
         "",
         "walk 8 -",
-        "run 8 8=1 0 0 0 0 128 0 1 0 0 0 0",
-        "run 8 - 0 0 0 0 128 0 2 0 0 0 0",
-        "run 8 - 0 0 0 0 128 0 1 0 0 0",
+        "run 8 8=1 0 0 0 0 128 0 1 0 0 0 0 0 0 - -",
+        "run 8 - 0 0 0 0 128 0 2 0 0 0 0 0 0 - -",
+        "run 8 - 0 0 0 0 128 0 1 0 0 0 0",
+        "run 8 - 0 0 0 0 128 0 1 0 0 0 0 0 0 -",
+        "run 8 - 0 0 0 0 128 0 1 0 0 0 0 0 0 - - -",
+        "run 8 - 0 0 0 0 128 0 1 0 0 0 0 4294967296 0 - -",
+        "run 8 - 0 0 0 0 128 0 1 0 0 0 0 0 0 100 -",
+        "run 8 - 0 0 0 0 128 0 1 0 0 0 0 0 0 - 0G",
+        "keyautoload 8 - 0 0 0 0 128 0 1 0 0 0 0",
+        "keyautoload 8 - 0 0 0 0 128 0 1 0 0 0 0 - -",
         "keyreset 8 - 0 0 0 0 128 0 1 0 0 0",
         "load 8 - 0g",
         "load 8 - 0",

@@ -1,7 +1,7 @@
 //! Loads a tape and runs it: `controller [FILE [CYCLES]]`. With no file it
 //! takes the tape of document 01, which leaves the machine in the reset state.
 
-use rc4000::{load, remark, run, Control};
+use rc4000::{load, remark, run_without_devices, Control};
 use std::error::Error;
 
 /// A control record in the reset state and the end record.
@@ -27,7 +27,7 @@ fn main() -> Result<(), Box<dyn Error>> {
     if let Some(text) = remark(&tape, store.len())? {
         println!("remark: {}", String::from_utf8_lossy(text));
     }
-    let report = run(&mut store, &mut control, 0, cycles)?;
+    let report = run_without_devices(&mut store, &mut control, 0, cycles)?;
     println!(
         "{:?} after {} instructions and {} entries, IC {}",
         report.outcome, report.executed, report.entries, control.ic

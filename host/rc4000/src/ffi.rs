@@ -1,6 +1,6 @@
 //! The C calls, as `host/include/rc4000.h` declares them.
 
-use crate::types::{Control, Kind, Outcome, Refusal, Report};
+use crate::types::{Control, Devices, Kind, Outcome, Refusal, Report};
 
 /// The control record as it crosses: a flag is a byte, 0 or 1.
 #[repr(C)]
@@ -23,12 +23,23 @@ pub struct RunResult {
     pub number: u32,
     pub executed: u32,
     pub entries: u32,
+    pub devices: Devices,
+    pub taken: usize,
+    pub typed: usize,
 }
 
 #[repr(C)]
 pub struct State {
     pub control: ControlRecord,
     pub refusal: u32,
+}
+
+#[repr(C)]
+pub struct Autoloaded {
+    pub control: ControlRecord,
+    pub refusal: u32,
+    pub devices: Devices,
+    pub taken: usize,
 }
 
 #[repr(C)]
@@ -46,9 +57,22 @@ extern "C" {
         control: ControlRecord,
         lines: u32,
         budget: u32,
+        devices: Devices,
+        characters: *const u8,
+        count: usize,
+        typing: *mut u8,
+        space: usize,
     ) -> RunResult;
     pub fn rc4000_press_reset(store: *mut u32, cells: usize, control: ControlRecord) -> State;
     pub fn rc4000_press_start(store: *mut u32, cells: usize, control: ControlRecord) -> State;
+    pub fn rc4000_press_autoload(
+        store: *mut u32,
+        cells: usize,
+        control: ControlRecord,
+        devices: Devices,
+        characters: *const u8,
+        count: usize,
+    ) -> Autoloaded;
     pub fn rc4000_load(
         store: *mut u32,
         cells: usize,
@@ -65,10 +89,19 @@ const _: () = {
     assert!(offset_of!(ControlRecord, monitor) == 24);
     assert!(offset_of!(ControlRecord, enabled) == 25);
     assert!(offset_of!(ControlRecord, reset) == 26);
-    assert!(size_of::<RunResult>() == 44);
+    assert!(size_of::<Devices>() == 8);
+    assert!(offset_of!(Devices, typewriter) == 4);
+    assert!(size_of::<RunResult>() == 72);
     assert!(offset_of!(RunResult, outcome) == 28);
+    assert!(offset_of!(RunResult, devices) == 44);
+    assert!(offset_of!(RunResult, taken) == 56);
+    assert!(offset_of!(RunResult, typed) == 64);
     assert!(size_of::<State>() == 32);
     assert!(offset_of!(State, refusal) == 28);
+    assert!(size_of::<Autoloaded>() == 48);
+    assert!(offset_of!(Autoloaded, refusal) == 28);
+    assert!(offset_of!(Autoloaded, devices) == 32);
+    assert!(offset_of!(Autoloaded, taken) == 40);
     assert!(size_of::<Text>() == 24);
     assert!(offset_of!(Text, found) == 4);
     assert!(offset_of!(Text, start) == 8);
@@ -116,12 +149,18 @@ fn flag(byte: u8) -> bool {
 }
 
 impl RunResult {
-    /// The control record goes to the caller's.
-    pub fn hand_back(self, control: &mut Control) -> Result<Report, Refusal> {
+    /// Control record and device buffer registers go to the caller's.
+    pub fn hand_back(
+        self,
+        control: &mut Control,
+        devices: &mut Devices,
+    ) -> Result<Report, Refusal> {
         *control = self.control.into();
+        *devices = self.devices;
         let outcome = match self.outcome {
             0 => {
                 assert!(self.executed == 0 && self.entries == 0);
+                assert!(self.taken == 0 && self.typed == 0);
                 return Err(refusal(self.number));
             }
             1 => Outcome::Spent,
@@ -134,7 +173,24 @@ impl RunResult {
             outcome,
             executed: self.executed,
             entries: self.entries,
+            taken: self.taken,
+            typed: self.typed,
         })
+    }
+}
+
+impl Autoloaded {
+    /// Control record and device buffer registers go to the caller's.
+    pub fn hand_back(self, control: &mut Control, devices: &mut Devices) -> Result<usize, Refusal> {
+        *control = self.control.into();
+        *devices = self.devices;
+        match self.refusal {
+            0 => Ok(self.taken),
+            number => {
+                assert!(self.taken == 0);
+                Err(refusal(number))
+            }
+        }
     }
 }
 

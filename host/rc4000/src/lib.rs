@@ -4,7 +4,11 @@
 //! store is a row of cells that the caller lends; a cell is
 //! `key * 16_777_216 + word` with a key of 3 and a word of 24 bits.
 //!
-//! On a refusal the store and the control record are as they were given.
+//! The low-speed channel has a tape reader, device 0, and a typewriter, device
+//! 1: a call lends the reader's characters and a buffer for the typed ones. A
+//! later call goes on with what the one before left of both.
+//!
+//! On a refusal all that is lent is as it was given.
 
 #![warn(missing_docs)]
 
@@ -16,17 +20,26 @@ mod types;
 #[doc = include_str!("../../../README.md")]
 struct Readme;
 
-pub use types::{Control, Kind, Outcome, Refusal, Report};
+pub use types::{Control, Devices, Kind, Outcome, Refusal, Report};
 
 /// Runs at most `budget` cycles, at most 65,535; the raised `lines` (bits 3 to
 /// 23) join IR first.
+///
+/// The reader takes its `characters` (0 to 63) from the first on. Typed bytes
+/// stand at the front of `typing`, whose other bytes are kept. The report says
+/// how many were taken and typed; a later run gets `&characters[taken..]` and
+/// `&mut typing[typed..]`.
 pub fn run(
     store: &mut [u32],
     control: &mut Control,
     lines: u32,
     budget: u32,
+    devices: &mut Devices,
+    characters: &[u8],
+    typing: &mut [u8],
 ) -> Result<Report, Refusal> {
-    // SAFETY: pointer and length are those of one slice, lent for the call.
+    // SAFETY: each pointer and length are those of one slice, lent for the
+    // call; the characters are only read.
     let result = unsafe {
         ffi::rc4000_run(
             store.as_mut_ptr(),
@@ -34,9 +47,25 @@ pub fn run(
             (*control).into(),
             lines,
             budget,
+            *devices,
+            characters.as_ptr(),
+            characters.len(),
+            typing.as_mut_ptr(),
+            typing.len(),
         )
     };
-    result.hand_back(control)
+    result.hand_back(control, devices)
+}
+
+/// A run that lends no characters and no typing space, the registers zero.
+pub fn run_without_devices(
+    store: &mut [u32],
+    control: &mut Control,
+    lines: u32,
+    budget: u32,
+) -> Result<Report, Refusal> {
+    let mut devices = Devices::default();
+    run(store, control, lines, budget, &mut devices, &[], &mut [])
 }
 
 /// Presses the reset key: IC goes to word 10 and the machine is in the reset
@@ -55,6 +84,30 @@ pub fn press_start(store: &mut [u32], control: &mut Control) -> Result<(), Refus
     let state =
         unsafe { ffi::rc4000_press_start(store.as_mut_ptr(), store.len(), (*control).into()) };
     state.hand_back(control)
+}
+
+/// Presses the autoload key: in the reset state the first four characters
+/// become word 0 with key 0, IC becomes 0 and the state is left; the next run
+/// executes word 0. Elsewhere, or with fewer than four characters, the key
+/// changes nothing. Gives the number of characters taken, 4 or 0.
+pub fn press_autoload(
+    store: &mut [u32],
+    control: &mut Control,
+    devices: &mut Devices,
+    characters: &[u8],
+) -> Result<usize, Refusal> {
+    // SAFETY: as in `run`.
+    let loaded = unsafe {
+        ffi::rc4000_press_autoload(
+            store.as_mut_ptr(),
+            store.len(),
+            (*control).into(),
+            *devices,
+            characters.as_ptr(),
+            characters.len(),
+        )
+    };
+    loaded.hand_back(control, devices)
 }
 
 /// Loads a tape into the store and its control record into `control`. The

@@ -1,4 +1,4 @@
-//! Control record, outcome and refusals.
+//! Control record, device buffer registers, outcome and refusals.
 
 use std::fmt;
 
@@ -59,6 +59,17 @@ impl Default for Control {
     }
 }
 
+/// The device buffer registers of the low-speed channel, 24 bits each. They
+/// start at zero and pass from call to call.
+#[repr(C)]
+#[derive(Clone, Copy, Debug, Default, PartialEq, Eq, Hash)]
+pub struct Devices {
+    /// Of the tape reader, device 0.
+    pub reader: u32,
+    /// Of the typewriter, device 1.
+    pub typewriter: u32,
+}
+
 /// What interrupted a run.
 #[derive(Clone, Copy, Debug, PartialEq, Eq, Hash)]
 pub enum Kind {
@@ -88,6 +99,10 @@ pub struct Report {
     pub executed: u32,
     /// Interruption entries.
     pub entries: u32,
+    /// Reader characters taken, from the first on.
+    pub taken: usize,
+    /// Bytes typed: they stand at the front of the typing buffer.
+    pub typed: usize,
 }
 
 /// Why a call was refused.
@@ -117,6 +132,9 @@ pub enum Refusal {
     RecordOrder = 11,
     /// 12: a tape of over 65,536 bytes.
     TapeLength = 12,
+    /// 13: a reader character over 63, or a device buffer register over 24
+    /// bits.
+    Device = 13,
 }
 
 impl Refusal {
@@ -140,6 +158,7 @@ impl Refusal {
             10 => Refusal::BlockCell,
             11 => Refusal::RecordOrder,
             12 => Refusal::TapeLength,
+            13 => Refusal::Device,
             _ => return None,
         })
     }

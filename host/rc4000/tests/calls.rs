@@ -1,7 +1,7 @@
 //! Every call of the wrapper, done and refused.
 
-use rc4000::{load, press_reset, press_start, remark, run};
-use rc4000::{Control, Kind, Outcome, Refusal};
+use rc4000::{load, press_autoload, press_reset, press_start, remark, run, run_without_devices};
+use rc4000::{Control, Devices, Kind, Outcome, Refusal, Report};
 
 /// A remark, the control record in the reset state, the end.
 fn tape() -> Vec<u8> {
@@ -24,7 +24,7 @@ fn a_tape_is_loaded_and_run() {
     };
     load(&mut store, &mut control, &tape()).unwrap();
     assert_eq!(control, Control::fresh());
-    let report = run(&mut store, &mut control, 0, 100).unwrap();
+    let report = run_without_devices(&mut store, &mut control, 0, 100).unwrap();
     assert_eq!(report.outcome, Outcome::Reset);
     assert_eq!((report.executed, report.entries), (0, 0));
 }
@@ -48,13 +48,13 @@ fn exceptions_and_lines() {
         reset: false,
         ..Control::fresh()
     };
-    let report = run(&mut store, &mut control, 0, 5).unwrap();
+    let report = run_without_devices(&mut store, &mut control, 0, 5).unwrap();
     assert_eq!(report.outcome, Outcome::Interrupted(Kind::Exception));
     assert_eq!((report.executed, report.entries), (0, 1));
     assert_eq!((store[4], store[5], control.ic), (0, 16, 12));
     control.im = 1 << 18;
     control.enabled = true;
-    let report = run(&mut store, &mut control, 1 << 18, 5).unwrap();
+    let report = run_without_devices(&mut store, &mut control, 1 << 18, 5).unwrap();
     assert_eq!(report.outcome, Outcome::Interrupted(Kind::Line(10)));
     assert_eq!((store[4], control.ir), (10, 0));
 }
@@ -81,7 +81,10 @@ fn refusals() {
         ..Control::fresh()
     };
     let given = control;
-    assert_eq!(run(&mut [], &mut control, 0, 0), Err(Refusal::StoreSize));
+    assert_eq!(
+        run_without_devices(&mut [], &mut control, 0, 0),
+        Err(Refusal::StoreSize)
+    );
     assert_eq!(
         press_start(&mut [1 << 27; 8], &mut control),
         Err(Refusal::CellValue)
@@ -97,11 +100,171 @@ fn refusals() {
     assert_eq!(control, given);
     control = Control::fresh();
     assert_eq!(
-        run(&mut [0; 8], &mut control, 1 << 21, 65_536),
+        run_without_devices(&mut [0; 8], &mut control, 1 << 21, 65_536),
         Err(Refusal::Lines)
     );
     assert_eq!(
-        run(&mut [0; 8], &mut control, 0, 65_536),
+        run_without_devices(&mut [0; 8], &mut control, 0, 65_536),
         Err(Refusal::Budget)
     );
+}
+
+/// An instruction by its code and address.
+const fn instruction(code: u32, address: u32) -> u32 {
+    code << 18 | address
+}
+
+const AW: u32 = 0;
+const IO: u32 = 1;
+const AL: u32 = 11;
+const JL: u32 = 13;
+/// Write to device 1, the typewriter.
+const TYPE: u32 = 64 + 3;
+
+/// A word as four reader characters, the first one left-most.
+fn punched(word: u32) -> [u8; 4] {
+    [18, 12, 6, 0].map(|shift| (word >> shift & 63) as u8)
+}
+
+/// The reader tape of section 11.5 for a program from 16 on that types
+/// this text and then executes AW with no characters left.
+fn reader_tape(text: &[u8]) -> Vec<u8> {
+    let typing = text
+        .iter()
+        .flat_map(|&byte| [instruction(AL, byte.into()), instruction(IO, TYPE)]);
+    let program: Vec<u32> = typing.chain([instruction(AW, 0)]).collect();
+    let loading = (16..)
+        .step_by(2)
+        .zip(program)
+        .flat_map(|(address, word)| [instruction(AW, address), word]);
+    [2, 4, instruction(JL, 0)]
+        .into_iter()
+        .chain(loading)
+        .chain([instruction(JL, 16)])
+        .flat_map(punched)
+        .collect()
+}
+
+/// What a list of runs leaves.
+#[derive(Debug, PartialEq)]
+struct Left {
+    store: Vec<u32>,
+    control: Control,
+    devices: Devices,
+    typing: Vec<u8>,
+}
+
+/// Presses the autoload key and runs with these budgets, each run on what the
+/// one before left.
+fn autoload(budgets: &[u32]) -> (Left, Vec<Report>) {
+    let tape = reader_tape(b"TYPED");
+    let (mut store, mut control) = (vec![0; 64], Control::fresh());
+    let mut devices = Devices::default();
+    let mut typing = vec![255; 9];
+    let mut taken = press_autoload(&mut store, &mut control, &mut devices, &tape).unwrap();
+    assert_eq!((taken, store[0], devices.reader), (4, 2, 2));
+    let mut typed = 0;
+    let mut reports = Vec::new();
+    for &budget in budgets {
+        let (characters, space) = (&tape[taken..], &mut typing[typed..]);
+        let (cells, record, registers) = (&mut store, &mut control, &mut devices);
+        let report = run(cells, record, 0, budget, registers, characters, space).unwrap();
+        taken += report.taken;
+        typed += report.typed;
+        reports.push(report);
+    }
+    assert_eq!((taken, typed), (tape.len(), 5));
+    let left = Left {
+        store,
+        control,
+        devices,
+        typing,
+    };
+    (left, reports)
+}
+
+#[test]
+fn autoload_and_type() {
+    let (left, reports) = autoload(&[65_535]);
+    assert_eq!(left.typing, b"TYPED\xff\xff\xff\xff");
+    assert_eq!(reports[0].outcome, Outcome::Reset);
+    assert_eq!((reports[0].executed, reports[0].entries), (49, 0));
+    assert_eq!((left.control.ic, left.control.reset), (38, true));
+    assert_eq!(left.store[5], 38);
+    let devices = Devices {
+        reader: 16,
+        typewriter: b'D'.into(),
+    };
+    assert_eq!(left.devices, devices);
+}
+
+#[test]
+fn two_budgets_take_and_type_what_one_does() {
+    let (whole, _) = autoload(&[65_535]);
+    for first in 0..49 {
+        let (left, reports) = autoload(&[first, 65_535 - first]);
+        assert_eq!(left, whole);
+        assert_eq!(reports[0].outcome, Outcome::Spent);
+        assert_eq!(reports[1].outcome, Outcome::Reset);
+        assert_eq!(
+            (reports[0].executed, reports[1].executed),
+            (first, 49 - first)
+        );
+    }
+}
+
+#[test]
+fn autoload_key_without_effect() {
+    let mut store = vec![5; 8];
+    let mut control = Control::fresh();
+    let mut devices = Devices {
+        reader: 7,
+        typewriter: 8,
+    };
+    let given = devices;
+    let few = press_autoload(&mut store, &mut control, &mut devices, &[1, 2, 3]);
+    assert_eq!((few, control), (Ok(0), Control::fresh()));
+    control.reset = false;
+    let elsewhere = press_autoload(&mut store, &mut control, &mut devices, &[1, 2, 3, 4]);
+    assert_eq!((elsewhere, control.ic), (Ok(0), 0));
+    assert_eq!((store, devices), (vec![5; 8], given));
+}
+
+/// Run and autoload key refuse these devices, and change nothing.
+fn refused_devices(devices: Devices, characters: &[u8]) {
+    let mut store = vec![7; 8];
+    let mut control = Control::fresh();
+    let mut typing = [9; 3];
+    let mut lent = devices;
+    let (cells, record, registers) = (&mut store, &mut control, &mut lent);
+    let refused = run(cells, record, 1, 65_535, registers, characters, &mut typing);
+    assert_eq!(refused, Err(Refusal::Device));
+    let refused = press_autoload(&mut store, &mut control, &mut lent, characters);
+    assert_eq!(refused, Err(Refusal::Device));
+    assert_eq!(
+        (store, control, lent, typing),
+        (vec![7; 8], Control::fresh(), devices, [9; 3])
+    );
+}
+
+#[test]
+fn refusal_13_leaves_everything() {
+    let wide = |reader, typewriter| Devices { reader, typewriter };
+    refused_devices(wide(0, 0), &[0, 1, 2, 3, 64]);
+    refused_devices(wide(0, 0), &[255]);
+    refused_devices(wide(1 << 24, 0), &[]);
+    refused_devices(wide(0, u32::MAX), &[63; 4]);
+    assert_eq!(Refusal::from_number(13), Some(Refusal::Device));
+    assert_eq!(Refusal::Device.number(), 13);
+}
+
+#[test]
+fn refusal_13_comes_after_5() {
+    let mut devices = Devices {
+        reader: 1 << 24,
+        typewriter: 0,
+    };
+    let (store, control) = (&mut [0; 8], &mut Control::fresh());
+    let refused = run(store, control, 0, 65_536, &mut devices, &[64], &mut []);
+    assert_eq!(refused, Err(Refusal::Budget));
 }

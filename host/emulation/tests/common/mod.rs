@@ -1,12 +1,16 @@
 //! Machines for the tests.
 #![allow(dead_code)]
 
-use emulation::{run, Control, Report};
+use emulation::{run, Control, Devices, Refusal, Report};
 
-/// A store and a control record that a test sets up and looks at.
+/// A store, a control record and what is lent for the devices, which a test
+/// sets up and looks at.
 pub struct Machine {
     pub store: Vec<u32>,
     pub control: Control,
+    pub devices: Devices,
+    pub characters: Vec<u8>,
+    pub typing: Vec<u8>,
 }
 
 /// The word of an instruction: F, W, M, X, D.
@@ -19,8 +23,20 @@ pub fn bit(number: u32) -> u32 {
     1 << (23 - number)
 }
 
+/// A run with no characters, no space to type in and registers of zero.
+pub fn run_alone(
+    store: &mut [u32],
+    control: &mut Control,
+    lines: u32,
+    budget: u32,
+) -> Result<Report, Refusal> {
+    let mut devices = Devices::default();
+    run(store, control, lines, budget, &mut devices, &[], &mut [])
+}
+
 impl Machine {
-    /// 32 cells of zero, IC 16, monitor mode, the interruption program at 62.
+    /// 32 cells of zero, IC 16, monitor mode, the interruption program at 62;
+    /// no characters and no space to type in.
     pub fn new() -> Self {
         let control = Control {
             ic: 16,
@@ -29,7 +45,13 @@ impl Machine {
         };
         let mut store = vec![0; 32];
         store[6] = 62;
-        Machine { store, control }
+        Machine {
+            store,
+            control,
+            devices: Devices::default(),
+            characters: Vec::new(),
+            typing: Vec::new(),
+        }
     }
 
     /// The machine with these working registers.
@@ -47,6 +69,15 @@ impl Machine {
     }
 
     pub fn cycles(&mut self, budget: u32) -> Report {
-        run(&mut self.store, &mut self.control, 0, budget).unwrap()
+        run(
+            &mut self.store,
+            &mut self.control,
+            0,
+            budget,
+            &mut self.devices,
+            &self.characters,
+            &mut self.typing,
+        )
+        .unwrap()
     }
 }

@@ -1,7 +1,8 @@
 //! `loadrun` of document 01 by the emulation: a tape on standard input, a
-//! store of 4,096 cells of zero, 100 cycles, no lines; one line of output.
+//! store of 4,096 cells of zero, 100 cycles, no lines, no characters and no
+//! space to type in; one line of output.
 
-use emulation::{load, run, Control, Outcome, Refusal};
+use emulation::{load, run, Control, Devices, Outcome, Refusal};
 use std::io::Read;
 
 /// Outcome, executed, entries and IC.
@@ -9,7 +10,8 @@ fn load_and_run(tape: &[u8]) -> Result<String, Refusal> {
     let mut store = vec![0; 4096];
     let mut control = Control::fresh();
     load(&mut store, &mut control, tape)?;
-    let report = run(&mut store, &mut control, 0, 100)?;
+    let mut devices = Devices::default();
+    let report = run(&mut store, &mut control, 0, 100, &mut devices, &[], &mut [])?;
     let outcome = match report.outcome {
         Outcome::Spent => "spent",
         Outcome::Reset => "reset",

@@ -1,0 +1,76 @@
+//! The two machines behind one face, each with its own store.
+
+/// What a run did.
+pub struct Ran {
+    /// It ended in the reset state, else spent.
+    pub reset: bool,
+    pub executed: u32,
+    pub taken: usize,
+    pub typed: usize,
+}
+
+/// A machine with a tape loaded.
+pub trait Machine {
+    /// Loads a tape into a store of so many cells of zero.
+    fn load(cells: usize, tape: &[u8]) -> Self;
+
+    /// One run with no lines, which must end spent or in the reset state.
+    fn run(&mut self, budget: u32, characters: &[u8], typing: &mut [u8]) -> Ran;
+
+    /// Presses the reset key and the autoload key; gives the characters taken.
+    fn autoload(&mut self, characters: &[u8]) -> usize;
+}
+
+/// The machine of a library; both have the same calls.
+macro_rules! machine {
+    ($name:ident, $library:ident) => {
+        pub struct $name {
+            store: Vec<u32>,
+            control: $library::Control,
+            devices: $library::Devices,
+        }
+
+        impl Machine for $name {
+            fn load(cells: usize, tape: &[u8]) -> Self {
+                let mut store = vec![0; cells];
+                let mut control = $library::Control::fresh();
+                $library::load(&mut store, &mut control, tape).expect("the tape loads");
+                let devices = $library::Devices::default();
+                $name {
+                    store,
+                    control,
+                    devices,
+                }
+            }
+
+            fn run(&mut self, budget: u32, characters: &[u8], typing: &mut [u8]) -> Ran {
+                let (store, control) = (&mut self.store, &mut self.control);
+                let devices = &mut self.devices;
+                let report = $library::run(store, control, 0, budget, devices, characters, typing)
+                    .expect("a run that is not refused");
+                let reset = match report.outcome {
+                    $library::Outcome::Spent => false,
+                    $library::Outcome::Reset => true,
+                    $library::Outcome::Interrupted(kind) => panic!("interrupted: {kind:?}"),
+                };
+                Ran {
+                    reset,
+                    executed: report.executed,
+                    taken: report.taken,
+                    typed: report.typed,
+                }
+            }
+
+            fn autoload(&mut self, characters: &[u8]) -> usize {
+                let (store, control) = (&mut self.store, &mut self.control);
+                $library::press_reset(store, control).expect("the reset key");
+                $library::press_autoload(store, control, &mut self.devices, characters)
+                    .expect("the autoload key")
+            }
+        }
+    };
+}
+
+#[cfg(feature = "proved")]
+machine!(Proved, rc4000);
+machine!(Emulation, emulation);

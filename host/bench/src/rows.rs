@@ -1,0 +1,109 @@
+//! The rows of the table.
+
+pub const LARGEST_BUDGET: u32 = 65_535;
+
+/// Words that the autoload row loads.
+const AUTOLOADED: u32 = 4000;
+
+/// What the reader has. Every run starts its characters again.
+pub enum Reader {
+    /// So many characters.
+    Characters(usize),
+    /// The tape of an autoload. A run then begins with the reset key and the
+    /// autoload key and ends in the reset state, where the tape ends.
+    Autoload,
+}
+
+/// A row of the table.
+pub struct Row {
+    pub name: &'static str,
+    pub tape: &'static [u8],
+    pub cells: usize,
+    pub budget: u32,
+    pub reader: Reader,
+    /// Typing space of a run.
+    pub space: usize,
+}
+
+macro_rules! tape {
+    ($name:literal) => {
+        include_bytes!(concat!("../tapes/", $name, ".tape"))
+    };
+}
+
+const fn program(name: &'static str, tape: &'static [u8]) -> Row {
+    Row {
+        name,
+        tape,
+        cells: 4096,
+        budget: LARGEST_BUDGET,
+        reader: Reader::Characters(0),
+        space: 0,
+    }
+}
+
+/// A program that takes or types a character in every loop of so many
+/// instructions: enough are lent for a run, and at most one is left.
+const fn loops(instructions: u32) -> usize {
+    LARGEST_BUDGET.div_ceil(instructions) as usize
+}
+
+const fn calls(name: &'static str, cells: usize) -> Row {
+    Row {
+        cells,
+        budget: 1,
+        ..program(name, tape!("registers"))
+    }
+}
+
+pub const ROWS: [Row; 11] = [
+    program("register loop", tape!("registers")),
+    program("byte copy loop", tape!("bytes")),
+    program("multiply loop (WM)", tape!("multiply")),
+    program("divide loop (WD)", tape!("divide")),
+    program("floating loop (FA FM FD)", tape!("floating")),
+    program("task-mode loop with stores", tape!("task")),
+    Row {
+        reader: Reader::Characters(loops(6)),
+        ..program("read loop (IO)", tape!("read"))
+    },
+    Row {
+        space: loops(3),
+        ..program("type loop (IO)", tape!("type"))
+    },
+    Row {
+        reader: Reader::Autoload,
+        ..program("autoload of 4,000 words", tape!("registers"))
+    },
+    calls("budget 1, 4,096 cells", 4096),
+    calls("budget 1, 1,048,576 cells", 1_048_576),
+];
+
+impl Reader {
+    /// Its characters.
+    pub fn characters(&self) -> Vec<u8> {
+        match self {
+            Reader::Characters(count) => (0..64).cycle().take(*count).collect(),
+            Reader::Autoload => autoload_tape(),
+        }
+    }
+}
+
+/// The bootstrap of section 11.5 and words from address 16 on. AW reaches 2046,
+/// so W3 is the base of every thousand words.
+fn autoload_tape() -> Vec<u8> {
+    let (aw, al, jl) = (0, 11 << 18, 13 << 18);
+    let (w3, x3) = (3 << 16, 3 << 12);
+    let mut words = vec![aw | 2, aw | 4, jl, al | w3];
+    for count in 0..AUTOLOADED {
+        let place = count % 1000;
+        if place == 0 && count > 0 {
+            words.push(al | w3 | x3 | 2000);
+        }
+        words.extend([aw | x3 | (16 + 2 * place), count]);
+    }
+    words
+        .iter()
+        .flat_map(|word: &u32| [18, 12, 6, 0].map(|shift| (word >> shift & 63) as u8))
+        .collect()
+}
