@@ -9,9 +9,11 @@ the manual's section 11.5 stands first: AW 2, AW 4, JL 0, a loop in W0 to W2. Th
 itself for each word of the listing, and JL to the IC of the control record. The listing's text is last, a character
 each, its code less 32: space, signs, figures and capital letters.
 
-A listing is written as tape.py says. Refused is what AW cannot load: words below address 8, where the bootstrap
-stands, and keys; and a control record with more than IC and monitor mode. An address over 2046 does not fit into an
-instruction; W3 is then made its base, so the program must not count on W3.
+A listing is written as tape.py says (tape.py --help). Refused is what AW cannot load: words below address 8, where the
+bootstrap stands, keys, and raw bytes; and a control record with more than IC and monitor mode, or a second one. An
+address over 2046 does not fit into an instruction; W3 is then made its base, so the program must not count on W3.
+
+Status: 0 done, 1 a tape is not what its listing makes (--check), 2 no tape can be made or read.
 """
 import sys
 
@@ -20,23 +22,11 @@ import tape
 LARGEST, STEP = 2046, 2000
 
 
-def records(load_tape):
-    """Kind and payload of each record."""
-    while load_tape:
-        size, kind = int.from_bytes(load_tape[:4], "little"), int.from_bytes(load_tape[4:6], "little")
-        yield kind, load_tape[6:6 + size]
-        load_tape = load_tape[6 + size:]
-
-
-def numbers(payload):
-    return [int.from_bytes(payload[i:i + 4], "little") for i in range(0, len(payload), 4)]
-
-
 class Punch:
     """The words of a reader tape."""
 
     def __init__(self):
-        self.words, self.base, self.start = [], None, None
+        self.words, self.base = [], None
         for text in ("AW 2", "AW 4", "JL 0"):
             self.instruction(text)
 
@@ -57,43 +47,51 @@ class Punch:
         self.instruction(f"{code} X3 {address - base}")
 
     def cell(self, address, cell):
-        if address < 8 or cell >> 24:
-            raise tape.Error(f"AW cannot load cell {cell} at address {address}")
+        if address < 8:
+            raise tape.Error(f"AW cannot load address {address}: the bootstrap is below 8")
+        if cell >> 24:
+            raise tape.Error(f"AW cannot load key {cell >> 24}")
         self.based("AW", address)
         self.words.append(cell)
 
-    def record(self, kind, payload):
-        if kind == 1:
-            first, *cells = numbers(payload)
-            for place, cell in enumerate(cells, first):
-                self.cell(2 * place, cell)
-        elif kind == 2:
-            self.start = numbers(payload)[0]
+
+def start(maker):
+    """The IC of the only control record."""
+    for place in maker.raws:
+        with maker.at(place):
+            raise tape.Error("AW cannot load raw bytes")
+    for place, _ in maker.controls[1:]:
+        with maker.at(place):
+            raise tape.Error("a second control record")
+    for place, payload in maker.controls:
+        with maker.at(place):
             if payload[4:] != bytes(12) + bytes([128, 0, 1, 0]):
                 raise tape.Error("a reader tape sets IC alone: write `control IC=.. monitor`")
-        elif kind not in (3, 4):
-            raise tape.Error(f"a record of kind {kind}")
+            return int.from_bytes(payload[:4], "little")
+    raise tape.Error(f"{maker.file}: no control record")
 
 
-def characters(words, text):
-    coded = [ord(character) - 32 for character in text]
-    if not all(0 <= code < 64 for code in coded):
-        raise tape.Error(f"not all of six bits: {text}")
-    return bytes([word >> shift & 63 for word in words for shift in (18, 12, 6, 0)] + coded)
+def coded(text):
+    """The characters of a text."""
+    wrong = [character for character in text if not 32 <= ord(character) < 96]
+    if wrong:
+        raise tape.Error(f"no character of six bits: {wrong[0]}")
+    return [ord(character) - 32 for character in text]
 
 
-def make(listing):
-    maker, punch = tape.made(listing), Punch()
-    try:
-        for kind, payload in records(maker.tape):
-            punch.record(kind, payload)
-        if punch.start is None:
-            raise tape.Error("no control record")
-        punch.based("JL", punch.start)
-        return characters(punch.words, maker.text)
-    except tape.Error as error:
-        sys.exit(f"no reader tape: {error}")
+def make(listing, file):
+    maker, punch = tape.made(listing, file), Punch()
+    begin = start(maker)
+    for place, address, cell in maker.cells:
+        with maker.at(place):
+            punch.cell(address, cell)
+    punch.based("JL", begin)
+    characters = [word >> shift & 63 for word in punch.words for shift in (18, 12, 6, 0)]
+    for place, text in maker.texts:
+        with maker.at(place):
+            characters += coded(text)
+    return bytes(characters)
 
 
 if __name__ == "__main__":
-    tape.main(sys.argv[1:], "reader.py", __doc__, make, ".reader")
+    sys.exit(tape.main(sys.argv[1:], "reader.py", __doc__, make, ".reader"))

@@ -23,7 +23,7 @@ FILES = "Promises", "Several", "Claims", "Grammar", "Contents", "Numbers", "Prot
 LEAST = 68      # statements: a request adds to them
 PLACE = rf"crates/(\w+)/(specs/(?:{'|'.join(FILES)})\.antt)"
 # closed types that claim nothing
-ELSEWHERE = {"crates/definition/specs/MicroOps.antt: Value"}
+ELSEWHERE = {"crates/definition_instructions/specs/MicroOps.antt: Value"}
 # definitions with no edit of their own: machineOf's type allows no other function; Block, Remark and Lent are types of data and claim nothing
 UNEDITED = {"machineOf", "Block", "Remark", "Lent"}
 PAGE = "docs/PROMISES.md"

@@ -6,15 +6,15 @@
 
 A listing has one item a line; `;` starts a comment.
 
-    remark TEXT                 a remark record, the rest of the line
-    block ADDRESS [key K]       a block from this byte address (even) on; its cells follow
+    remark TEXT                 a remark record, the rest of the line: at most 255 bytes
+    block ADDRESS [key K]       a block from this byte address (even) on; its cells follow, one or more
     [LABEL:] CODE [Wn] [Mn] [Xn] [D]
-                                an instruction by its mnemonic of the manual's A.2; D is a number or a
+                                an instruction by its mnemonic of the manual's A.2; D, -2048 to 2047, is a number or a
                                 label, which counts from the instruction itself where M is 2 or 3
-    [LABEL:] word N             a word, decimal or 0x..; a label's address too
-    [LABEL:] bytes A B          two bytes in one word
+    [LABEL:] word N             a word, decimal or 0x.., -8388608 to 16777215; a label's address too
+    [LABEL:] bytes A B          two bytes in one word, -2048 to 4095 each
     [LABEL:] float X            a floating-point number, two words; a label is the second word's address
-    key K                       the key of the cells that follow
+    key K                       the key of the cells that follow, 0 to 7
     control [IC=N] [IR=N] [IM=N] [pending=N] [PR=N] [EX=N] [monitor] [enabled] [reset]
                                 the control record; PR is 128 where it is not given
     end                         the end record
@@ -22,8 +22,13 @@ A listing has one item a line; `;` starts a comment.
     text TEXT                   characters behind the program on a reader tape (tools/reader.py), the rest of the
                                 line; a load tape has none of them
 
-A number may be `bit I`, a word with bit I from the left, written bitI: IR=bit5; or the code of a character, written 'C.
+A number may be a word with bit I from the left, written bitI: IR=bit5; or the code of a character, written 'C. A label
+is letters, figures and _, with no figure first; it is not bitI, nor W, M or X with 0 to 3.
+
+What does not fit is refused, and so is a tape over 65,536 bytes; no tape is written then. The order of the records is
+the listing's. Status: 0 done, 1 a tape is not what its listing makes (--check), 2 no tape can be made or read.
 """
+import contextlib
 import math
 import os
 import re
@@ -32,9 +37,25 @@ import sys
 CODES = """AW IO BL HL LA LO LX WA WS AM WM AL ML JL JD JE XL BS BA BZ RL SP KL RS WD RX HS XS PL PS MS IS
 CI AC NS ND AS AD LS LD SH SL SE SN SO SZ SX IC FA FS FM KS FD CF DL DS AA SS""".split()
 
+WORD = 2**24
+LONGEST_TAPE, LONGEST_REMARK = 65536, 255
+
+CONTROL_FIELDS = {"IC": (0, WORD - 1), "IR": (0, WORD - 1), "IM": (0, WORD - 1), "pending": (0, WORD - 1), "PR": (128, 255), "EX": (0, 7)}
+FLAGS = {"monitor": 1, "enabled": 2, "reset": 4}
+
 
 class Error(Exception):
-    pass
+    """Why no tape is made."""
+
+
+class Placed(Error):
+    """The same with file, line and text."""
+
+
+def within(value, low, high, what):
+    if not low <= value <= high:
+        raise Error(f"{what} is {low} to {high}, not {value}")
+    return value
 
 
 def number(text, labels):
@@ -42,189 +63,276 @@ def number(text, labels):
         return labels[text]
     bit = re.fullmatch(r"bit(\d+)", text)
     if bit:
-        return 1 << (23 - int(bit[1]))
+        return 1 << (23 - within(int(bit[1]), 0, 23, "a bit"))
     if len(text) == 2 and text[0] == "'":
         return ord(text[1])
     try:
         return int(text, 0)
     except ValueError:
-        raise Error(f"no number or label: {text}")
+        raise Error(f"no number or label: {text}") from None
 
 
 def little(value, size):
-    return (value % (1 << 8 * size)).to_bytes(size, "little")
+    return value.to_bytes(size, "little")
 
 
 def record(kind, payload):
     return little(len(payload), 4) + little(kind, 2) + payload
 
 
-def floating(value):
+def floating(text):
     """The two words of a normalized floating-point number."""
-    if value == 0:
+    try:
+        fraction, exponent = math.frexp(float(text))
+        bits = round(fraction * 2**35)
+    except (ValueError, OverflowError):
+        raise Error(f"no floating-point number: {text}") from None
+    if bits == 0:
         return [0, 2048]
-    fraction, exponent = math.frexp(value)
-    if fraction == -0.5:
-        fraction, exponent = -1.0, exponent - 1
-    bits = round(fraction * 2**35) % 2**36
+    if bits == 2**35:
+        bits, exponent = 2**34, exponent + 1
+    elif bits == -2**34:
+        bits, exponent = -2**35, exponent - 1
+    bits %= 2**36
     return [bits >> 12, (bits % 4096) * 4096 + exponent % 4096]
 
 
 def instruction(fields, address, labels):
-    parts = {"W": 0, "M": 0, "X": 0}
-    displacement = None
+    parts = {}
     for field in fields[1:]:
-        if re.fullmatch(r"[WMX][0-3]", field):
-            parts[field[0]] = int(field[1])
-        elif displacement is None:
-            displacement = field
-        else:
-            raise Error(f"a second displacement: {field}")
-    d = number(displacement, labels) if displacement else 0
-    if parts["M"] >= 2 and displacement in labels:
+        part, value = (field[0], int(field[1])) if re.fullmatch(r"[WMX][0-3]", field) else ("D", field)
+        if part in parts:
+            raise Error(f"a second {part}: {field}")
+        parts[part] = value
+    w, m, x = (parts.get(part, 0) for part in "WMX")
+    d = number(parts.get("D", "0"), labels)
+    if m >= 2 and parts.get("D") in labels:
         d -= address
-    if not -2048 <= d <= 4095:
-        raise Error(f"displacement {d} does not fit")
-    code = CODES.index(fields[0])
-    return code << 18 | parts["W"] << 16 | parts["M"] << 14 | parts["X"] << 12 | d % 4096
+    return CODES.index(fields[0]) << 18 | w << 16 | m << 14 | x << 12 | within(d, -2048, 2047, "D") % 4096
 
 
 def words(fields, address, labels):
     """The words that an item of a block stands for."""
-    if fields[0] == "word":
-        return [number(fields[1], labels) % 2**24]
-    if fields[0] == "bytes":
-        return [number(fields[1], labels) % 4096 * 4096 + number(fields[2], labels) % 4096]
-    if fields[0] == "float":
-        return floating(float(fields[1]))
-    if fields[0] in CODES:
+    name, *values = fields
+    if name in CODES:
         return [instruction(fields, address, labels)]
-    raise Error(f"unknown item: {fields[0]}")
+    if len(values) != {"word": 1, "bytes": 2, "float": 1}[name]:
+        raise Error(f"{name} has {len(values)} values")
+    if name == "word":
+        return [within(number(values[0], labels), -WORD // 2, WORD - 1, "a word") % WORD]
+    if name == "bytes":
+        left, right = (within(number(value, labels), -2048, 4095, "a byte") % 4096 for value in values)
+        return [left * 4096 + right]
+    return floating(values[0])
 
 
 def control(fields, labels):
-    values = {"IC": 0, "IR": 0, "IM": 0, "pending": 0, "PR": 128, "EX": 0}
-    flags = 0
+    """The payload of a control record."""
+    values, flags = {}, set()
     for field in fields:
         name, equals, value = field.partition("=")
-        if equals and name in values:
-            values[name] = number(value, labels)
-        elif name in ("monitor", "enabled", "reset"):
-            flags += {"monitor": 1, "enabled": 2, "reset": 4}[name]
+        if name in values or name in flags:
+            raise Error(f"a second {name}")
+        if equals and name in CONTROL_FIELDS:
+            values[name] = within(number(value, labels), *CONTROL_FIELDS[name], name)
+        elif not equals and name in FLAGS:
+            flags.add(name)
         else:
-            raise Error(f"unknown field: {field}")
-    payload = b"".join(little(values[name], 4) for name in ("IC", "IR", "IM", "pending"))
-    return record(2, payload + bytes([values["PR"], values["EX"], flags, 0]))
+            raise Error(f"no control field: {field}")
+    if "reset" in flags and flags != {"monitor", "reset"}:
+        raise Error("the reset state is with monitor and without enabled")
+    payload = b"".join(little(values.get(name, 0), 4) for name in ("IC", "IR", "IM", "pending"))
+    return payload + bytes([values.get("PR", 128), values.get("EX", 0), sum(FLAGS[flag] for flag in flags), 0])
 
 
 class Maker:
-    """One pass over a listing. The first pass finds the labels."""
+    """One pass over a listing. The first, which has no labels, finds them; the second makes the records."""
 
-    def __init__(self, labels, final):
-        self.labels, self.final = labels, final
-        self.tape, self.text, self.block = b"", "", None
-
-    def close_block(self):
-        if self.block is not None:
-            first, cells = self.block
-            self.tape += record(1, little(first, 4) + b"".join(little(cell, 4) for cell in cells))
-        self.block = None
-
-    def item(self, line):
-        fields = line.split()
-        name = fields[0]
-        if name == "remark":
-            self.close_block()
-            self.tape += record(4, line[len("remark"):].strip().encode())
-        elif name == "block":
-            self.close_block()
-            address = int(fields[1], 0)
-            if address % 2:
-                raise Error("a block begins at an even address")
-            self.block, self.key = (address // 2, []), 0
-            if fields[2:3] == ["key"]:
-                self.key = int(fields[3])
-        elif name == "key":
-            self.key = int(fields[1])
-        elif name == "control":
-            self.close_block()
-            self.tape += control(fields[1:], self.labels if self.final else Any(self.labels))
-        elif name == "end":
-            self.close_block()
-            self.tape += record(3, b"")
-        elif name == "raw":
-            self.close_block()
-            self.tape += bytes.fromhex("".join(fields[1:]))
-        elif name == "text":
-            self.text += line[len("text"):].strip()
-        else:
-            self.cells(fields)
-
-    def cells(self, fields):
-        if self.block is None:
-            raise Error("a cell outside a block")
-        first, cells = self.block
-        address = 2 * (first + len(cells))
-        label = fields.pop(0)[:-1] if fields[0].endswith(":") else None
-        labels = self.labels if self.final else Any(self.labels, address)
-        made = words(fields, address, labels)
-        if label is not None:
-            self.labels[label] = address + 2 * (len(made) - 1)
-        cells.extend(self.key << 24 | word for word in made)
-
-
-class Any(dict):
-    """Labels in the first pass: those not known yet have some value."""
-
-    def __init__(self, labels, default=0):
-        super().__init__(labels)
-        self.default = default
-
-    def __contains__(self, name):
-        return bool(re.fullmatch(r"[a-z_]\w*", name)) and not re.fullmatch(r"bit\d+", name)
-
-    def __missing__(self, name):
-        return self.default
-
-
-def made(listing):
-    """The maker with the tape and the text of a listing."""
-    labels = {}
-    for final in (False, True):
-        maker = Maker(labels, final)
-        for place, line in enumerate(listing.splitlines(), 1):
+    def __init__(self, file, lines, labels=None):
+        self.file, self.lines, self.labels, self.found = file, lines, labels, {}
+        self.place, self.block, self.key = 0, None, 0
+        self.records = []  # (line, bytes)
+        self.cells = []  # (line, address, cell)
+        self.controls = []  # (line, payload)
+        self.raws = []  # lines
+        self.texts = []  # (line, text)
+        for self.place, line in enumerate(lines, 1):
             text = line.split(";")[0].strip()
             if text:
-                try:
-                    maker.item(text)
-                except (Error, IndexError, ValueError) as error:
-                    sys.exit(f"line {place}: {error}: {line}")
-        maker.close_block()
-    return maker
+                with self.at(self.place):
+                    self.item(text)
+        self.close_block()
+
+    @contextlib.contextmanager
+    def at(self, place):
+        """An error in here is told with the file, this line and its text."""
+        try:
+            yield
+        except Placed:
+            raise
+        except Error as error:
+            raise Placed(f"{self.file}:{place}: {error}: {self.lines[place - 1].strip()}") from None
+
+    def add(self, kind, payload):
+        self.close_block()
+        self.records.append((self.place, record(kind, payload)))
+
+    def close_block(self):
+        if self.block is None:
+            return
+        place, first, cells = self.block
+        if not cells:
+            with self.at(place):
+                raise Error("a block with no cells")
+        self.records.append((place, record(1, little(first, 4) + b"".join(little(cell, 4) for cell in cells))))
+        self.block = None
+
+    def item(self, text):
+        name, *fields = text.split()
+        rest = text[len(name):].strip()
+        if name in ("remark", "block", "key", "control", "end", "raw", "text"):
+            getattr(self, "item_" + name)(fields, rest)
+        else:
+            self.item_of_block([name, *fields])
+
+    def item_remark(self, fields, rest):
+        payload = rest.encode()
+        within(len(payload), 0, LONGEST_REMARK, "the length of a remark")
+        self.add(4, payload)
+
+    def item_block(self, fields, rest):
+        self.close_block()
+        if len(fields) not in (1, 3) or fields[1:2] not in ([], ["key"]):
+            raise Error("not: block ADDRESS [key K]")
+        address = within(number(fields[0], {}), 0, WORD - 2, "an address")
+        if address % 2:
+            raise Error("a block begins at an even address")
+        self.block = self.place, address // 2, []
+        self.item_key(fields[2:] or ["0"], rest)
+
+    def item_key(self, fields, rest):
+        if self.block is None:
+            raise Error("a key outside a block")
+        if len(fields) != 1:
+            raise Error("not: key K")
+        self.key = within(number(fields[0], {}), 0, 7, "a key")
+
+    def item_control(self, fields, rest):
+        payload = bytes(20) if self.labels is None else control(fields, self.labels)
+        self.controls.append((self.place, payload))
+        self.add(2, payload)
+
+    def item_end(self, fields, rest):
+        if fields:
+            raise Error("end has no values")
+        self.add(3, b"")
+
+    def item_raw(self, fields, rest):
+        try:
+            given = bytes.fromhex("".join(fields))
+        except ValueError:
+            raise Error("raw has bytes of two hexadecimal figures") from None
+        self.close_block()
+        self.raws.append(self.place)
+        self.records.append((self.place, given))
+
+    def item_text(self, fields, rest):
+        self.texts.append((self.place, rest))
+
+    def define(self, label, address):
+        if not re.fullmatch(r"[A-Za-z_]\w*", label, re.ASCII) or re.fullmatch(r"bit\d+|[WMX][0-3]", label):
+            raise Error(f"no name for a label: {label}")
+        if label in self.found:
+            raise Error(f"a second label {label}")
+        self.found[label] = address
+
+    def item_of_block(self, fields):
+        label = fields.pop(0)[:-1] if fields[0].endswith(":") else None
+        if not fields:
+            raise Error("a label with no item")
+        if fields[0] not in CODES and fields[0] not in ("word", "bytes", "float"):
+            raise Error(f"unknown item: {fields[0]}")
+        if self.block is None:
+            raise Error("a cell outside a block")
+        _, first, cells = self.block
+        size = 2 if fields[0] == "float" else 1
+        address = 2 * (first + len(cells))
+        last = within(address + 2 * (size - 1), 0, WORD - 2, "an address")
+        if label is not None:
+            self.define(label, last)
+        made = [0] * size if self.labels is None else words(fields, address, self.labels)
+        for word in made:
+            self.cells.append((self.place, 2 * (first + len(cells)), self.key << 24 | word))
+            cells.append(self.key << 24 | word)
 
 
-def make(listing):
-    return made(listing).tape
+def made(listing, file):
+    """The maker with all that a listing has."""
+    lines = listing.split("\n")
+    return Maker(file, lines, Maker(file, lines).found)
+
+
+def make(listing, file):
+    maker = made(listing, file)
+    tape = b""
+    for place, part in maker.records:
+        tape += part
+        with maker.at(place):
+            within(len(tape), 0, LONGEST_TAPE, "the length of a tape")
+    return tape
+
+
+def read(file):
+    """The text of a listing."""
+    with open(file, "rb") as source:
+        data = source.read()
+    try:
+        return data.decode("utf-8-sig")
+    except UnicodeDecodeError as error:
+        place = data[:error.start].count(b"\n") + 1
+        raise Error(f"{file}:{place}: no text in UTF-8: {data.splitlines()[place - 1]!r}") from None
+
+
+def check(listing, make, ending):
+    """Whether a listing makes the tape beside it."""
+    made_tape = make(read(listing), listing)
+    with open(os.path.splitext(listing)[0] + ending, "rb") as tape:
+        return made_tape == tape.read()
+
+
+def write(listing, tape, make):
+    made_tape = make(read(listing), listing)
+    if os.path.exists(tape) and os.path.samefile(listing, tape):
+        raise Error(f"{tape}: the tape would be written over its listing")
+    with open(tape, "wb") as output:
+        output.write(made_tape)
+
+
+def answer(arguments, tool, help, make, ending):
+    if len(arguments) > 1 and arguments[0] == "--check":
+        different = [listing for listing in arguments[1:] if not check(listing, make, ending)]
+        for listing in different:
+            print(f"{tool}: {listing} does not make the tape beside it", file=sys.stderr)
+        return 1 if different else 0
+    if arguments in (["--help"], ["-h"]):
+        print(help.strip())
+        return 0
+    if len(arguments) != 2 or arguments[0].startswith("--"):
+        raise Error(f"usage: {tool} LISTING TAPE | {tool} --check LISTING.. | {tool} --help")
+    write(*arguments, make)
+    return 0
 
 
 def main(arguments, tool, help, make, ending):
-    """Makes or checks tapes, whose names have this ending, by a function from listing to tape."""
-    if len(arguments) > 1 and arguments[0] == "--check":
-        for listing in arguments[1:]:
-            with open(listing) as text, open(os.path.splitext(listing)[0] + ending, "rb") as tape:
-                if make(text.read()) != tape.read():
-                    sys.exit(f"{listing} does not make the tape beside it")
-        return
-    if arguments == ["--help"]:
-        print(help.strip())
-        return
-    if len(arguments) != 2:
-        sys.exit(f"usage: {tool} LISTING TAPE | {tool} --check LISTING..")
-    with open(arguments[0]) as text:
-        tape = make(text.read())
-    with open(arguments[1], "wb") as output:
-        output.write(tape)
+    """Makes or checks tapes, whose names have this ending, by a function from listing and its file's name to tape; gives the status."""
+    try:
+        return answer(arguments, tool, help, make, ending)
+    except Error as error:
+        print(f"{tool}: {error}", file=sys.stderr)
+    except OSError as error:
+        print(f"{tool}: {error.filename or arguments[-1]}: {error.strerror}", file=sys.stderr)
+    return 2
 
 
 if __name__ == "__main__":
-    main(sys.argv[1:], "tape.py", __doc__, make, ".tape")
+    sys.exit(main(sys.argv[1:], "tape.py", __doc__, make, ".tape"))

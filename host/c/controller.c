@@ -6,10 +6,9 @@ static const uint8_t tape[32] = {20, 0, 0, 0, 2, 0, [22] = 128, 0, 5, 0, 0, 0, 0
 
 int main(void) {
     static uint32_t store[4096];
-    rc4000_control control = {.pr = 128, .monitor = true};
-    rc4000_state loaded = rc4000_load(store, 4096, control, tape, sizeof tape);
+    rc4000_state loaded = rc4000_load(store, 4096, rc4000_fresh(), tape, sizeof tape);
     if (loaded.refusal != 0) {
-        printf("refused %u\n", loaded.refusal);
+        printf("refused %u: %s\n", loaded.refusal, rc4000_refusal_text(loaded.refusal));
         return 1;
     }
     rc4000_result run = rc4000_run_without_devices(store, 4096, loaded.control, 0, 100);

@@ -4,6 +4,12 @@
  * cell = key * 16777216 + word, key 0 to 7, word 24 bits. Cell i has the byte
  * addresses 2i and 2i + 1. A store has 8 to 8388608 cells.
  *
+ * A machine begins with a store of zeros and rc4000_fresh(), its control record
+ * after power on. That is the reset state, in which a run makes no cycle: the
+ * start key (rc4000_press_start) or the autoload key (rc4000_press_autoload)
+ * leaves it, and so does a tape (rc4000_load) whose control record is outside
+ * it. A record of zeros is none: it is refused with 3, as PR is under 128.
+ *
  * A run also lends the low-speed channel its two devices: the tape reader,
  * device 0, as a row of characters that are only read (6 bits each, 0 to 63),
  * and the typewriter, device 1, as a row of bytes to type into. What a call
@@ -20,7 +26,7 @@
  * overlap, and nothing else changes them during the call. Nothing else is
  * asked.
  *
- * Link with libcapi.a. */
+ * Link with librc4000.a. */
 #ifndef RC4000_H
 #define RC4000_H
 
@@ -46,6 +52,40 @@ typedef struct {
     uint8_t reset;    /* reset state */
 } rc4000_control;
 
+/* The record after power on: all zero but bit 0 of PR, in the reset state. */
+static inline rc4000_control rc4000_fresh(void) {
+    const rc4000_control control = {0, 0, 0, 0, 128, 0, 1, 0, 1};
+    return control;
+}
+
+/* The constant addresses of the machine. The cell of an address is
+ * store[address / 2]. */
+enum {
+    RC4000_INTERRUPT_NUMBER = 8,
+    RC4000_RETURN_ADDRESS = 10,
+    RC4000_INTERRUPTION_PROGRAM = 12,
+    RC4000_START_ADDRESS = 14
+};
+
+static inline uint32_t rc4000_word(uint32_t cell) {
+    return cell % 16777216;
+}
+
+static inline uint32_t rc4000_key(uint32_t cell) {
+    return cell / 16777216;
+}
+
+/* The cell with this key, 0 to 7, and the right-most 24 bits of this word. */
+static inline uint32_t rc4000_cell(uint32_t key, uint32_t word) {
+    return key * 16777216 + word % 16777216;
+}
+
+/* The bit with this number from the left, 0 to 23, of lines, IR or IM; 0 for a
+ * number over 23. A run takes lines 3 to 23; line p is told by the number 2p. */
+static inline uint32_t rc4000_line(uint32_t number) {
+    return number < 24 ? (uint32_t)8388608 >> number : 0;
+}
+
 /* The device buffer registers, 24 bits each. They start at zero and pass from
  * call to call. */
 typedef struct {
@@ -68,18 +108,54 @@ enum {
 enum {
     RC4000_STORE_SIZE = 1,    /* fewer than 8 or more than 8388608 cells */
     RC4000_CELL_VALUE = 2,    /* a cell of 134217728 or more */
-    RC4000_CONTROL_FIELD = 3, /* a control field outside its width (a flag over 1) or the rule of reset */
+    RC4000_CONTROL_FIELD = 3, /* a control field outside the widths (a flag over 1 too) and rules */
     RC4000_LINES = 4,         /* lines with bit 0, 1 or 2 set, or over 24 bits */
     RC4000_BUDGET = 5,        /* a budget over 65535 */
-    RC4000_TAPE_ENDS = 6,     /* the tape ends inside a record, or with no end record */
+    RC4000_TAPE_ENDS = 6,     /* the tape stops inside a record, or before an end record */
     RC4000_RECORD_KIND = 7,   /* a record kind not 1 to 4 */
     RC4000_RECORD_LENGTH = 8, /* a length wrong for the kind */
     RC4000_BLOCK_PLACE = 9,   /* a block beyond the store */
     RC4000_BLOCK_CELL = 10,   /* a cell of a block of 134217728 or more */
     RC4000_RECORD_ORDER = 11, /* records in the wrong order, or bytes after the end */
-    RC4000_TAPE_LENGTH = 12,  /* a tape of over 65536 bytes */
+    RC4000_TAPE_LENGTH = 12,  /* a tape over 65536 bytes */
     RC4000_DEVICE = 13        /* a reader character over 63, or a device buffer register over 24 bits */
 };
+
+/* What a refusal means. */
+static inline const char *rc4000_refusal_text(uint32_t number) {
+    switch (number) {
+    case 0:
+        return "not refused";
+    case RC4000_STORE_SIZE:
+        return "fewer than 8 or more than 8,388,608 cells";
+    case RC4000_CELL_VALUE:
+        return "a cell of 134,217,728 or more";
+    case RC4000_CONTROL_FIELD:
+        return "a control field outside the widths and rules";
+    case RC4000_LINES:
+        return "lines with bit 0, 1 or 2 set, or over 24 bits";
+    case RC4000_BUDGET:
+        return "a budget over 65,535";
+    case RC4000_TAPE_ENDS:
+        return "the tape stops inside a header or payload, or before an end record";
+    case RC4000_RECORD_KIND:
+        return "a record kind not 1 to 4";
+    case RC4000_RECORD_LENGTH:
+        return "a record length wrong for the kind";
+    case RC4000_BLOCK_PLACE:
+        return "a block beyond the store";
+    case RC4000_BLOCK_CELL:
+        return "a cell of a block of 134,217,728 or more";
+    case RC4000_RECORD_ORDER:
+        return "not the end after the control record, an end with no control record, or bytes after the end";
+    case RC4000_TAPE_LENGTH:
+        return "a tape over 65,536 bytes";
+    case RC4000_DEVICE:
+        return "a reader character over 63, or a device buffer register over 24 bits";
+    default:
+        return "no refusal has this number";
+    }
+}
 
 typedef struct {
     rc4000_control control;

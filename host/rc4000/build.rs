@@ -1,4 +1,4 @@
-//! Links the static library that `rt staticlib capi` writes.
+//! Links the static library that `host/build-library` makes.
 
 use std::env;
 use std::path::PathBuf;
@@ -6,11 +6,11 @@ use std::path::PathBuf;
 fn main() {
     let manifest = PathBuf::from(env::var_os("CARGO_MANIFEST_DIR").expect("set by cargo"));
     let directory = manifest.join("../../target/staticlib");
-    let library = directory.join("libcapi.a");
+    let library = directory.join("librc4000.a");
     if !library.exists() {
-        println!("cargo:warning=no target/staticlib/libcapi.a: run `rt staticlib capi` first");
+        println!("cargo:warning=no target/staticlib/librc4000.a: run host/build-library first");
     }
     println!("cargo:rerun-if-changed={}", library.display());
     println!("cargo:rustc-link-search=native={}", directory.display());
-    println!("cargo:rustc-link-lib=static=capi");
+    println!("cargo:rustc-link-lib=static=rc4000");
 }

@@ -1,7 +1,7 @@
 #!/usr/bin/env python3
-"""The floating-point instructions FA, FS, FM, FD, CI and CF, and what crates/floating_cases prints of them.
+"""The floating-point instructions FA, FS, FM, FD, CI and CF, and what crates/cases_floating prints of them.
 
-usage: tools/models/floating.py > crates/floating_cases/stdout
+usage: tools/models/floating.py > crates/cases_floating/stdout
 
 Written from chapter 14 of the reference manual and the readings of docs/DECISIONS.md, not from the crates. Registers are signed Python integers:
 AF has 39 bits, AF(-1) to AF(37); SF has 38, SF(0) to SF(37); SC has 13, SC(11) to SC(23).
@@ -157,7 +157,7 @@ def cf(pre, word, sb):
     return af >> 14 & 0xFFFFFF, 0
 
 
-# ---- the cases of crates/floating_cases
+# ---- the cases of crates/cases_floating
 
 RANDOM = 12000
 

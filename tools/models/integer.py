@@ -1,9 +1,9 @@
 #!/usr/bin/env python3
 """A model of the integer operations, written from chapter 14 of the manual and docs/DECISIONS.md alone, on Python's integers.
 
-usage: tools/models/integer.py > crates/integer_cases/stdout
+usage: tools/models/integer.py > crates/cases_integer/stdout
 
-It writes what the program integer_cases must write: for each operation its name, the number of cases, and a checksum of every result.
+It writes what the program cases_integer must write: for each operation its name, the number of cases, and a checksum of every result.
 Operations whose meaning the prose of chapter 14 gives in closed form (sums, product, shifts, normalizing) are asserted against that form too.
 """
 

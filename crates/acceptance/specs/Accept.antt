@@ -5,6 +5,7 @@ use mathlib.Core.Bool.{Bool, true, false, not, cond}
 use mathlib.Core.List.{List, [], _∷_}
 use lib.Dec.{ltb, leb}
 use lib.ListN.{length}
+use Rattle.registers.specs.Reg.{wordRange}
 use Rattle.machine.specs.declared.Control.{Control}
 use Rattle.machine.specs.declared.Refusal.the-variants.{StoreSize, CellValue, ControlField, Lines, Budget, Device}
 use Rattle.machine.specs.declared.Verdict.{Verdict}
@@ -30,10 +31,10 @@ stateFits c = cond (c .reset) (cond (c .monitor) (not (c .enabled)) false) true
 -- 3: a control field outside the widths (24 bits, PR 128 to 255, EX 3 bits) and rules
 unfoldable pub controlFits : Control → Bool
 controlFits c =
-    cond (ltb (c .ic) 16777216)
-    (cond (ltb (c .ir) 16777216)
-    (cond (ltb (c .im) 16777216)
-    (cond (ltb (c .pending) 16777216)
+    cond (ltb (c .ic) wordRange)
+    (cond (ltb (c .ir) wordRange)
+    (cond (ltb (c .im) wordRange)
+    (cond (ltb (c .pending) wordRange)
     (cond (ltb (c .pr) 128) false (cond (ltb (c .pr) 256) (cond (ltb (c .ex) 8) (stateFits c) false) false)) false) false) false)
     false
 
@@ -62,7 +63,7 @@ charactersFit (x ∷ s) = let rest = charactersFit s in cond (characterFits x) r
 
 -- the registers of the reader and of the typewriter, and all characters lent
 unfoldable pub devicesFit : ℕ → ℕ → List ℕ → Bool
-devicesFit r t cs = cond (ltb r 16777216) (cond (ltb t 16777216) (charactersFit cs) false) false
+devicesFit r t cs = cond (ltb r wordRange) (cond (ltb t wordRange) (charactersFit cs) false) false
 
 abbrev pub judgeDevices : Verdict → Bool → Verdict
 judgeDevices Accepted f = cond f Accepted (Rejected Device)

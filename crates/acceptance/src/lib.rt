@@ -5,6 +5,7 @@ use machine::Control;
 use machine::Devices;
 use machine::Refusal;
 use machine::Verdict;
+use registers::WORD_RANGE;
 
 pub fn size_fits(n: usize) -> bool
     ensures { λ r. ⌜ r ≡ sizeFits n ⌝ }
@@ -41,10 +42,10 @@ fn state_fits(c: Control) -> bool
 pub fn control_fits(c: Control) -> bool
     ensures { λ r. ⌜ r ≡ controlFits c ⌝ }
 {
-    if c.ic < 16777216 {
-        if c.ir < 16777216 {
-            if c.im < 16777216 {
-                if c.pending < 16777216 {
+    if c.ic < WORD_RANGE {
+        if c.ir < WORD_RANGE {
+            if c.im < WORD_RANGE {
+                if c.pending < WORD_RANGE {
                     if c.pr < 128 {
                         return false;
                     }
@@ -127,8 +128,8 @@ fn characters_fit(s: &[u8]) -> bool
 pub fn devices_fit(d: Devices, characters: &[u8]) -> bool
     ensures { λ r. ⌜ r ≡ devicesFit (d .reader) (d .typewriter) (now (characters .entry)) ⌝ }
 {
-    if d.reader < 16777216 {
-        if d.typewriter < 16777216 {
+    if d.reader < WORD_RANGE {
+        if d.typewriter < WORD_RANGE {
             return characters_fit(characters);
         }
         return false;

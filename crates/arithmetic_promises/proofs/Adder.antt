@@ -9,7 +9,7 @@ use native.Mathlib.Decide.{ℕ-discrete, decLt}
 use lib.Dec.{eqb}
 use lib.Pow.{pow-mono, pow-pos, split, mod-pow-add, high, low}
 use borrow.Author.Tests.{eq-eqb, ne-eqb}
-use Rattle.registers.specs.Reg.{bit, sign, signed, complement}
+use Rattle.registers.specs.Reg.{bitFromRight, sign, signed, complement}
 use Rattle.integer.specs.Bitwise.{each}
 use Rattle.integer.specs.Sums.{adder, sum, difference, sumWithCarry, differenceWithCarry, sum24}
 use Rattle.arithmetic_promises.specs.Elementary.{extension, notBit, negation}
@@ -29,7 +29,7 @@ rule x y t r p hx hy ht =
     ]
 
 -- the last k + 1 bits of a number
-last : (k x : ℕ) → x % 2 ^ suc k ≡ bit k x * 2 ^ k + x % 2 ^ k
+last : (k x : ℕ) → x % 2 ^ suc k ≡ bitFromRight k x * 2 ^ k + x % 2 ^ k
 last k x = ap (λ (j : ℕ). x % 2 ^ j) (sym (one-add k)) ∙ mod-pow-add x 1 k
 
 -- what a pass keeps: p is the weight of the place, m and n are the operands' bits to the right of it
@@ -49,9 +49,9 @@ module _ (a b c : ℕ) (hc : c < 2) where
     pub total : s .nextCarry * 2 ^ k + s .result ≡ a % 2 ^ k + b % 2 ^ k + c
 
   pass : (k : ℕ) (s : AdderState) → s .nextCarry < 2
-      → addBits a b k (takeCarry s) ≡ state ((bit k a + bit k b + s .nextCarry) % 2 * 2 ^ k + s .result) (s .nextCarry) ((bit k a + bit k b + s .nextCarry) / 2)
+      → addBits a b k (takeCarry s) ≡ state ((bitFromRight k a + bitFromRight k b + s .nextCarry) % 2 * 2 ^ k + s .result) (s .nextCarry) ((bitFromRight k a + bitFromRight k b + s .nextCarry) / 2)
   unfolding addBits
-  pass k s h = rule (bit k a) (bit k b) (s .nextCarry) (s .result) (2 ^ k) (omega arith) (omega arith) h
+  pass k s h = rule (bitFromRight k a) (bitFromRight k b) (s .nextCarry) (s .result) (2 ^ k) (omega arith) (omega arith) h
 
   added : (k : ℕ) → Added k (addition k c a b)
   unfolding adderLoop
@@ -64,8 +64,8 @@ module _ (a b c : ℕ) (hc : c < 2) where
           subst (Added (suc k)) (sym (pass k s (h .carries)))
           (record {
             carries = omega (arith, h .carries);
-            room = omega (arith, below ((bit k a + bit k b + s .nextCarry) % 2) (2 ^ k) (s .result) (omega arith) (h .room));
-            total = rw (last k a, last k b, w) (kept (bit k a) (bit k b) (s .nextCarry) (2 ^ k) (s .result) (a % 2 ^ k) (b % 2 ^ k) c (h .total));
+            room = omega (arith, below ((bitFromRight k a + bitFromRight k b + s .nextCarry) % 2) (2 ^ k) (s .result) (omega arith) (h .room));
+            total = rw (last k a, last k b, w) (kept (bitFromRight k a) (bitFromRight k b) (s .nextCarry) (2 ^ k) (s .result) (a % 2 ^ k) (b % 2 ^ k) c (h .total));
           })
 
   -- R and next carry, of any operands
@@ -118,7 +118,7 @@ unfolding each
 negated zero x = rw (mod-one x) refl
 negated (suc n) x =
     rw (last n x)
-    (let d : notBit (bit n x) (bit n x) + bit n x ≡ 1 = not-digit (bit n x) (omega arith) in
+    (let d : notBit (bitFromRight n x) (bitFromRight n x) + bitFromRight n x ≡ 1 = not-digit (bitFromRight n x) (omega arith) in
     omega (arith, ap (λ (z : ℕ). z * 2 ^ n) d, negated n x))
 
 pub not-law : NotLaw

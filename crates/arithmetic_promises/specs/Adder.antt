@@ -3,7 +3,7 @@ use Prim.Native.Nat.{ℕ, zero, suc, _+_, _*_, _%_, _^_}
 use mathlib.Core.Path.{_≡_, refl}
 use mathlib.Core.Bool.{not, cond}
 use lib.Dec.{eqb}
-use Rattle.registers.specs.Reg.{bit, signed, complement, bitsDiffer}
+use Rattle.registers.specs.Reg.{bitFromRight, signed, complement, bitsDiffer}
 use Rattle.integer.specs.declared.Sum.{Sum}
 use Rattle.integer.specs.Bitwise.{each}
 use Rattle.arithmetic_promises.specs.Elementary.{negation}
@@ -29,11 +29,11 @@ bitsUnequal k s = record { result = complement 1 (s .carry) * 2 ^ k + s .result;
 
 -- R(bit) := carry; next carry := A(bit)
 abbrev pub bitsEqual : ℕ → ℕ → AdderState → AdderState
-bitsEqual a k s = record { result = s .carry * 2 ^ k + s .result; carry = s .carry; nextCarry = bit k a }
+bitsEqual a k s = record { result = s .carry * 2 ^ k + s .result; carry = s .carry; nextCarry = bitFromRight k a }
 
 -- if A(bit) <> B(bit) then .. else ..
 unfoldable pub addBits : ℕ → ℕ → ℕ → AdderState → AdderState
-addBits a b k s = cond (not (eqb (bit k a) (bit k b))) (bitsUnequal k s) (bitsEqual a k s)
+addBits a b k s = cond (not (eqb (bitFromRight k a) (bitFromRight k b))) (bitsUnequal k s) (bitsEqual a k s)
 
 -- for bit := j step -1 until 0 do begin carry := next carry; .. end
 unfoldable pub adderLoop : ℕ → ℕ → ℕ → AdderState → AdderState
@@ -54,7 +54,7 @@ twoAdditions n a b = addition n 0 a (addition n 0 (negation n b) 1 .result)
 
 -- AR(-1:23) := R; W := AR(0:23); Test Integer (14.7): if AR(-1) <> AR(0) then IR(1) := EX(22) := 1; EX(23) := carry
 abbrev pub testInteger : AdderState → Sum
-testInteger s = record { word = s .result % 2 ^ 24; over = bitsDiffer (bit 24 (s .result)) (bit 23 (s .result)); carry = s .carry }
+testInteger s = record { word = s .result % 2 ^ 24; over = bitsDiffer (bitFromRight 24 (s .result)) (bitFromRight 23 (s .result)); carry = s .carry }
 
 -- 5 - 0: one pass carries, the last of the two additions does not
 minus-0 : difference 5 0 ≡ record { word = 5; over = 0; carry = 1 }

@@ -3,7 +3,7 @@
 use Prim.Native.Nat.{ℕ, suc, _+_, _-_, _*_, _/_, _%_, _^_, _≤_, _<_}
 use mathlib.Core.Path.{_≡_, refl}
 use mathlib.Core.Bool.{true}
-use Rattle.registers.specs.Reg.{bit, sign, signed, complement, shl, addAR, subAR, until}
+use Rattle.registers.specs.Reg.{bitFromRight, sign, signed, complement, shl, addAR, subAR, until}
 use Rattle.integer.specs.Sums.{sum, difference, sumWithCarry, differenceWithCarry, sum24}
 use Rattle.integer.specs.Skip.{comparison}
 use Rattle.multiply.specs.Wm.{wm}
@@ -89,7 +89,7 @@ TwoAdditionsOfZero =
 
 -- the left shifts end: AF(0) <> AF(1) after them, for every AF but zero with AF(-1) = AF(0)
 abbrev pub LeftShiftsEnd : Type 0
-LeftShiftsEnd = (a : ℕ) → a < 2 ^ 39 → sign 39 a ≡ bit 37 a → (a ≡ 0 → ⊥) → afNormal (afLeft a) ≡ true
+LeftShiftsEnd = (a : ℕ) → a < 2 ^ 39 → sign 39 a ≡ bitFromRight 37 a → (a ≡ 0 → ⊥) → afNormal (afLeft a) ≡ true
 
 -- two passes from Again are enough for every AF and SC: what they give has AF(36) = 0
 abbrev pub TwoPasses : Type 0

@@ -19,10 +19,10 @@ use Rattle.machine.specs.declared.Answer.{Answer}
 use Rattle.machine.specs.declared.Answer.the-variants.{Refused, Ended}
 use Rattle.machine.specs.Answers.{refusalNumber, kindNumber}
 use Rattle.acceptance.specs.Accept.{judgeStore}
-use Rattle.definition.specs.Machine.{Computer}
-use Rattle.running.specs.Keys.{Pressed, pressingReset, pressingStart}
-use Rattle.running.specs.Lent as Lent
-use Rattle.running.specs.Lent.{runLent, KeyReturned, autoloadLent}
+use Rattle.definition_instructions.specs.Machine.{Computer}
+use Rattle.definition_runs.specs.Keys.{Pressed, pressingReset, pressingStart}
+use Rattle.definition_runs.specs.Lent as Lent
+use Rattle.definition_runs.specs.Lent.{runLent, KeyReturned, autoloadLent}
 use Rattle.tape.specs.Load.{judgeThen, Loaded, loading}
 use Rattle.tape.specs.declared.Span.{Span}
 use Rattle.capi.specs.declared.ControlRecord.{ControlRecord}

@@ -19,14 +19,14 @@ use Rattle.machine.specs.declared.Answer.{Answer}
 use Rattle.machine.specs.declared.Answer.the-variants.{Refused, Ended}
 use Rattle.machine.specs.Answers.{verdictNumber}
 use Rattle.acceptance.specs.Accept.{sizeFits, cellsFit, controlFits, judgeStore, judgeMachine}
-use Rattle.definition.specs.Machine.{Computer, computer, Machine}
-use Rattle.running.specs.Run.{runMachine}
-use Rattle.running.specs.Keys.{pressedBy, resetKey, startKey, autoloadKey, pressingReset, pressingStart, judgeAutoloadOf, pressingAutoload}
-use Rattle.running.specs.Lent as Lent
-use Rattle.running.specs.Lent.{machineLent, handedBack, runLent, KeyReturned, keyHandedBack, autoloadLent}
-use Rattle.running.specs.Promises.{refusedNumber}
-use Rattle.running.proofs.Promises.{refused-run, refused-only, refusal-numbers}
-use Rattle.running.proofs.Claims as keys
+use Rattle.definition_instructions.specs.Machine.{Computer, computer, Machine}
+use Rattle.definition_runs.specs.Run.{runMachine}
+use Rattle.definition_runs.specs.Keys.{pressedBy, resetKey, startKey, autoloadKey, pressingReset, pressingStart, judgeAutoloadOf, pressingAutoload}
+use Rattle.definition_runs.specs.Lent as Lent
+use Rattle.definition_runs.specs.Lent.{machineLent, handedBack, runLent, KeyReturned, keyHandedBack, autoloadLent}
+use Rattle.definition_runs.specs.Promises.{refusedNumber}
+use Rattle.definition_runs.proofs.Promises.{refused-run, refused-only, refusal-numbers}
+use Rattle.definition_runs.proofs.Claims as keys
 use Rattle.tape.specs.Load.{judgeThen, judgeLoad, loadedBy, loading}
 use Rattle.capi.specs.declared.ControlRecord.{ControlRecord}
 use Rattle.capi.specs.Results.{flagsFit, controlIn, judgeFlags, runReturned, resultBy, autoloadedBy, runBy, keyBy, autoloadBy, loadBy, runCall, resetCall, startCall, autoloadCall, loadCall}

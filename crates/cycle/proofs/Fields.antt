@@ -8,8 +8,8 @@ use Rattle.machine.specs.declared.Control.{Control}
 use Rattle.machine.specs.Format.{instructionFields}
 use Rattle.machine.specs.Fields.{withIC, withPending, withEnabled}
 use Rattle.integer.specs.Sums.{sum24}
-use Rattle.running.specs.Cycle.{entryRecord, fetchRecord}
-use Rattle.row.specs.Row.{withMonitor}
+use Rattle.definition_runs.specs.Cycle.{entryRecord, fetchRecord}
+use Rattle.control_row.specs.Row.{withMonitor}
 
 pub displacement-fits : (v : ℕ) → instructionFields v .d < 4096
 unfolding instructionFields

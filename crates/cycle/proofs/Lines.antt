@@ -8,7 +8,7 @@ use mathlib.Core.Bool.{Bool, true, false, cond}
 use lib.Bits.{bitAnd, and-step, and-shr}
 use lib.Dec.{eqb}
 use borrow.Author.Tests.{eq-eqb, ne-eqb}
-use Rattle.running.specs.Cycle.{bitOf, requested, firstRequest}
+use Rattle.definition_runs.specs.Cycle.{bitFromLeft, requested, firstRequest}
 
 fuel : (n i : ℕ) → i < n → n - i ≡ suc (n - (i + 1))
 fuel n i h = omega arith
@@ -31,7 +31,7 @@ both-one a b h = at (ℕ-discrete a 1)
     at (no n) = rw (ne-eqb a 1 n)
 
 not-requested : (a b p : ℕ) → bitAnd a b ≡ 0 → requested a b p ≡ false
-unfolding requested bitOf
+unfolding requested bitFromLeft
 not-requested a b p z =
     let w : bitAnd (a / 2 ^ (23 - p)) (b / 2 ^ (23 - p)) ≡ 0 = sym (and-shr a b (23 - p)) ∙ rw z (zero-div (2 ^ (23 - p))) in
     both-one (a / 2 ^ (23 - p) % 2) (b / 2 ^ (23 - p) % 2) (common-bit (a / 2 ^ (23 - p)) (b / 2 ^ (23 - p)) w)

@@ -14,12 +14,12 @@ use Rattle.machine.specs.Store.{word, key, byte, absent, forbids, forbidden, vi
 use Rattle.machine.specs.Fields.{inTask, withIC, withPending}
 use Rattle.machine.specs.Format.{instructionFields}
 use Rattle.integer.specs.Sums.{sum24}
-use Rattle.definition.specs.Machine.{Computer, computer, Channel, Machine, machine, connected, Effect, ok, fault}
-use Rattle.running.specs.Runs.{CycleResult, instruction, entry}
-use Rattle.running.specs.Cycle.{firstRequest, looksAtLines, lineOf, lineCleared, enter, fetched, address, operate, decode, fetch, concluded, cycle}
-use Rattle.running.proofs.Fetched.{even-word}
-use Rattle.row.specs.Row.{keepsMode, withMonitor}
-use Rattle.row.specs.Answers.{Ending, completed, faulted, ending}
+use Rattle.definition_instructions.specs.Machine.{Computer, computer, Channel, Machine, machine, connected, Effect, ok, fault}
+use Rattle.definition_runs.specs.GenericRun.{CycleResult, instruction, entry}
+use Rattle.definition_runs.specs.Cycle.{firstRequest, looksAtLines, lineOf, lineCleared, enter, fetched, address, executeInstruction, decode, fetch, concluded, cycle}
+use Rattle.definition_runs.proofs.Fetched.{even-word}
+use Rattle.control_row.specs.Row.{keepsMode, withMonitor}
+use Rattle.control_row.specs.Answers.{Ending, completed, faulted, ending}
 use Rattle.cycle.specs.Steps.{Fetched, fetchAbsent, violates, fetchMode}
 use Rattle.cycle.proofs.Lines.{no-request, either-way}
 use Rattle.cycle.proofs.Fields.{fetch-fields}
@@ -134,7 +134,7 @@ same-address s c i b = refl
 
 pub decode-passed : (s : List ℕ) (c d : Control) (g : Channel) (i : Instruction) (v a : ℕ) → Fetched s (c .ic) v → violates c (v / 16777216) ≡ false
     → d ≡ withPending (withIC (fetchMode c (v / 16777216)) (sum24 (fetchMode c (v / 16777216) .ic) 2)) 0 → i ≡ instructionFields (v % 16777216)
-    → a ≡ address s (fetchMode c (v / 16777216)) i → ending (operate s d g i a) ≡ ending (decode s c g)
+    → a ≡ address s (fetchMode c (v / 16777216)) i → ending (executeInstruction s d g i a) ≡ ending (decode s c g)
 unfolding decode fetchMode forbidden
 decode-passed s c d x i v a f e g h j =
     rw (← (violates-fetch s c v f), e, ← (forbids-key (c .pr) (v / 16777216) (key s (c .ic / 2)) (f .key)), ← (f .word), ← h, ← (fetch-fields c (forbids (c .pr) (v / 16777216))))

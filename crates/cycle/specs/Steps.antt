@@ -4,14 +4,15 @@ use Prim.Native.Nat.{ℕ, _/_, _%_}
 use mathlib.Core.Path.{_≡_}
 use mathlib.Core.Bool.{Bool, true, false, cond}
 use mathlib.Core.List.{List}
+use Rattle.registers.specs.Reg.{wordRange}
 use Rattle.machine.specs.declared.Control.{Control}
 use Rattle.machine.specs.Records.{resetRecord}
 use Rattle.machine.specs.Store.{key, absent, forbids}
 use Rattle.integer.specs.Sums.{sum24}
-use Rattle.definition.specs.Machine.{Channel, Machine, machine}
-use Rattle.running.specs.Runs.{CycleResult, instruction, entry}
-use Rattle.running.specs.Cycle.{fetched}
-use Rattle.row.specs.Row.{withMonitor}
+use Rattle.definition_instructions.specs.Machine.{Channel, Machine, machine}
+use Rattle.definition_runs.specs.GenericRun.{CycleResult, instruction, entry}
+use Rattle.definition_runs.specs.Cycle.{fetched}
+use Rattle.control_row.specs.Row.{withMonitor}
 use Rattle.cycle.specs.declared.CycleEnd.{CycleEnd}
 use Rattle.cycle.specs.declared.CycleEnd.the-variants.{Executed, Reset, Entered}
 
@@ -23,8 +24,8 @@ cycleOf (Entered k) s c h = entry k (machine s c h)
 
 -- v is the instruction at IC, with the key of its cell over it
 pub record Fetched (s : List ℕ) (ic v : ℕ) : Type 0 where
-  pub word : v % 16777216 ≡ fetched s ic
-  pub key : v / 16777216 % 8 ≡ key s (ic / 2)
+  pub word : v % wordRange ≡ fetched s ic
+  pub key : v / wordRange % 8 ≡ key s (ic / 2)
 
 -- IC or IC + 1 does not exist
 unfoldable pub fetchAbsent : List ℕ → ℕ → Bool

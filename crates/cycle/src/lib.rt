@@ -2,21 +2,22 @@
 ghost use mathlib.Core.Path.{_≡_};
 ghost use Prim.Native.Nat.{_+_, _*_, _/_, _%_, _<_, _≤_};
 ghost use lib.ListN.{length};
+ghost use Rattle.registers.specs.Reg.{wordRange};
 ghost use Rattle.machine.specs.Fields.{withIC};
 ghost use Rattle.integer.specs.Sums.{sum24};
-ghost use Rattle.definition.specs.Machine.{computer, machine};
-ghost use Rattle.channel.specs.Row.{channelAt, IsChannel};
-ghost use Rattle.running.specs.Cycle.{bitOf, requested, firstRequest, lineOf, bitAlone, lineCleared, enter, displacement, relative, indexed, address, indirectAbsent, effectiveAddress, operate, decode, fetch, cycle};
-ghost use Rattle.row.specs.Row.{controlAt, IsRow};
-ghost use Rattle.row.specs.Answers.{ending, endingOf, endingWith};
+ghost use Rattle.definition_instructions.specs.Machine.{computer, machine};
+ghost use Rattle.channel_row.specs.Row.{channelAt, IsChannel};
+ghost use Rattle.definition_runs.specs.Cycle.{bitFromLeft, requested, firstRequest, lineOf, bitAlone, lineCleared, enter, relative, indexed, address, indirectAbsent, effectiveAddress, executeInstruction, decode, fetch, cycle};
+ghost use Rattle.control_row.specs.Row.{controlAt, IsRow};
+ghost use Rattle.control_row.specs.Answers.{ending, endingOf, endingWith};
 ghost use Rattle.cycle.specs.Steps.{cycleOf, Fetched, fetchAbsent, violates, fetchMode};
-use channel::Channel;
+use channel_row::Channel;
+use control_row::End;
+use control_row::Row;
 use machine::Control;
 use machine::Instruction;
 use machine::Kind;
-use machine::WORD;
-use row::End;
-use row::Row;
+use registers::WORD_RANGE;
 
 // How a cycle ended.
 pub enum CycleEnd {
@@ -27,7 +28,7 @@ pub enum CycleEnd {
 
 fn bit_of(x: u32, p: u32) -> u32
     requires { ⌜ p < 24 ⌝ }
-    ensures { λ r. ⌜ r ≡ bitOf x p ⌝ }
+    ensures { λ r. ⌜ r ≡ bitFromLeft x p ⌝ }
 {
     (x >> (23 - p)) % 2
 }
@@ -61,13 +62,13 @@ fn line_of(k: &Row) -> u32
     ensures value { λ r. ⌜ r ≡ lineOf (controlAt (now (k .entry))) ⌝ }
     ensures bound { λ r. ⌜ r ≤ 24 ⌝ }
 {
-    if row::is_enabled(k) {
-        let ir = row::ir(k);
-        let im = row::im(k);
+    if control_row::is_enabled(k) {
+        let ir = control_row::ir(k);
+        let im = control_row::im(k);
         if ir & im == 0 {
             return 24;
         }
-        if row::pending(k) == 0 {
+        if control_row::pending(k) == 0 {
             return first_request(ir, im);
         }
         return 24;
@@ -88,9 +89,9 @@ fn clear_line(k: &mut Row, p: u32)
     ensures value { λ _. ⌜ controlAt (now (k .exit)) ≡ lineCleared (controlAt (now (k .entry))) p ⌝ }
     ensures kept { λ _. ⌜ IsRow (now (k .exit)) ⌝ }
 {
-    let x = row::ir(k);
+    let x = control_row::ir(k);
     let b = bit_alone(x, p);
-    row::set_ir(k, x - b);
+    control_row::set_ir(k, x - b);
 }
 
 // An interruption is entered with its number.
@@ -100,18 +101,18 @@ fn enter(s: &mut [u32], n: u32, k: &mut Row)
     ensures kept { λ _. ⌜ IsRow (now (k .exit)) ⌝ }
 {
     machine::put_word(s, Control::INTERRUPT_NUMBER / 2, n);
-    let x = row::ic(k);
+    let x = control_row::ic(k);
     machine::put_word(s, Control::RETURN_ADDRESS / 2, x);
     let a = machine::word_at(s, Control::INTERRUPTION_PROGRAM / 2);
-    row::set_ic(k, a / 2 * 2);
-    row::set_pending(k, 0);
-    row::set_monitor(k, true);
-    row::set_enabled(k, false);
+    control_row::set_ic(k, a / 2 * 2);
+    control_row::set_pending(k, 0);
+    control_row::set_monitor(k, true);
+    control_row::set_enabled(k, false);
 }
 
 // The cell of an even IC; of an odd IC a place that no store has: so one comparison tells an even IC that is there.
 fn rotated(ic: u32) -> u32
-    requires { ⌜ ic < 16777216 ⌝ }
+    requires { ⌜ ic < wordRange ⌝ }
     ensures { λ r. ⌜ r ≡ ic / 2 + ic % 2 * 2147483648 ⌝ }
 {
     ic / 2 + ic % 2 * 2147483648
@@ -119,7 +120,7 @@ fn rotated(ic: u32) -> u32
 
 // The instruction at IC, with the key of its cell over it.
 fn fetched(s: &[u32], ic: u32) -> u32
-    requires { ⌜ (ic < 16777216) × (length (now s) ≤ 8388608) ⌝ }
+    requires { ⌜ (ic < wordRange) × (length (now s) ≤ 8388608) ⌝ }
     ensures { λ r. ⌜ Fetched (now (s .entry)) ic r ⌝ }
 {
     let h = rotated(ic);
@@ -130,29 +131,21 @@ fn fetched(s: &[u32], ic: u32) -> u32
     let n = integer::sum24(ic, 1);
     let d = machine::byte_at(s, n);
     let q = machine::key_at(s, ic / 2);
-    q * WORD + f * 4096 + d
-}
-
-fn displacement(d: u32) -> u32
-    requires { ⌜ d < 4096 ⌝ }
-    ensures value { λ r. ⌜ r ≡ displacement d ⌝ }
-    ensures bound { λ r. ⌜ r < 16777216 ⌝ }
-{
-    ((d + 2048) % 4096 + 16775168) % WORD
+    q * WORD_RANGE + f * 4096 + d
 }
 
 fn relative(m: u32, ic: u32, a: u32) -> u32
-    requires { ⌜ a < 16777216 ⌝ }
+    requires { ⌜ a < wordRange ⌝ }
     ensures value { λ r. ⌜ r ≡ relative m ic a ⌝ }
-    ensures bound { λ r. ⌜ r < 16777216 ⌝ }
+    ensures bound { λ r. ⌜ r < wordRange ⌝ }
 {
     if m < 2 { a } else { integer::sum24(a, ic) }
 }
 
 fn indexed(s: &[u32], x: u32, a: u32) -> u32
-    requires { ⌜ a < 16777216 ⌝ }
+    requires { ⌜ a < wordRange ⌝ }
     ensures value { λ r. ⌜ r ≡ indexed (now (s .entry)) x a ⌝ }
-    ensures bound { λ r. ⌜ r < 16777216 ⌝ }
+    ensures bound { λ r. ⌜ r < wordRange ⌝ }
 {
     if x == 0 {
         a
@@ -165,12 +158,12 @@ fn indexed(s: &[u32], x: u32, a: u32) -> u32
 fn address(s: &[u32], k: &Row, i: Instruction) -> u32
     requires { ⌜ i .d < 4096 ⌝ }
     ensures value { λ r. ⌜ r ≡ address (now (s .entry)) (controlAt (now (k .entry))) i ⌝ }
-    ensures bound { λ r. ⌜ r < 16777216 ⌝ }
+    ensures bound { λ r. ⌜ r < wordRange ⌝ }
 {
-    let d = displacement(i.d);
-    let q = row::pending(k);
+    let d = registers::signed_byte(i.d);
+    let q = control_row::pending(k);
     let p = integer::sum24(d, q);
-    let n = row::ic(k);
+    let n = control_row::ic(k);
     let a = relative(i.m, n, p);
     indexed(s, i.x, a)
 }
@@ -186,9 +179,9 @@ fn is_indirect_absent(s: &[u32], m: u32, a: u32) -> bool
 }
 
 fn effective_address(s: &[u32], m: u32, a: u32) -> u32
-    requires { ⌜ a < 16777216 ⌝ }
+    requires { ⌜ a < wordRange ⌝ }
     ensures value { λ r. ⌜ r ≡ effectiveAddress (now (s .entry)) m a ⌝ }
-    ensures bound { λ r. ⌜ r < 16777216 ⌝ }
+    ensures bound { λ r. ⌜ r < wordRange ⌝ }
 {
     if m % 2 == 0 {
         a
@@ -197,7 +190,7 @@ fn effective_address(s: &[u32], m: u32, a: u32) -> u32
     }
 }
 
-fn operate(
+fn execute_instruction(
     s: &mut [u32],
     k: &mut Row,
     h: &mut Channel,
@@ -206,8 +199,8 @@ fn operate(
     i: Instruction,
     a: u32,
 ) -> End
-    requires { ⌜ (a < 16777216) × IsRow (now k) × IsChannel (now h) (now characters) (now typing) ⌝ }
-    ensures value { λ r. ⌜ endingWith (channelAt (now (h .exit)) (now (characters .entry)) (now (typing .exit))) (endingOf r (now (s .exit)) (controlAt (now (k .exit)))) ≡ ending (operate (now (s .entry)) (controlAt (now (k .entry))) (channelAt (now (h .entry)) (now (characters .entry)) (now (typing .entry))) i a) ⌝ }
+    requires { ⌜ (a < wordRange) × IsRow (now k) × IsChannel (now h) (now characters) (now typing) ⌝ }
+    ensures value { λ r. ⌜ endingWith (channelAt (now (h .exit)) (now (characters .entry)) (now (typing .exit))) (endingOf r (now (s .exit)) (controlAt (now (k .exit)))) ≡ ending (executeInstruction (now (s .entry)) (controlAt (now (k .entry))) (channelAt (now (h .entry)) (now (characters .entry)) (now (typing .entry))) i a) ⌝ }
     ensures kept { λ _. ⌜ IsRow (now (k .exit)) ⌝ }
     ensures channel { λ _. ⌜ IsChannel (now (h .exit)) (now (characters .entry)) (now (typing .exit)) ⌝ }
 {
@@ -215,7 +208,7 @@ fn operate(
     if is_indirect_absent(s, i.m, a) {
         return End::Faulted;
     }
-    dispatch::operate(s, k, h, characters, typing, i.code, i.w, sb)
+    dispatch::execute(s, k, h, characters, typing, i.code, i.w, sb)
 }
 
 // Test Protection of the fetch from a cell with the key q; where it passes, monitor mode := PR(PK) = 1. Most fetches keep the mode.
@@ -225,13 +218,13 @@ fn is_fetch_violation(k: &mut Row, q: u32) -> bool
     ensures mode { λ r. ⌜ controlAt (now (k .exit)) ≡ fetchMode (controlAt (now (k .entry))) q ⌝ }
     ensures kept { λ _. ⌜ IsRow (now (k .exit)) ⌝ }
 {
-    if row::keeps_mode(k, q) {
+    if control_row::keeps_mode(k, q) {
         return false;
     }
-    if row::is_task(k) {
+    if control_row::is_task(k) {
         return true;
     }
-    row::set_monitor(k, false);
+    control_row::set_monitor(k, false);
     false
 }
 
@@ -241,9 +234,9 @@ fn raise_ic(k: &mut Row)
     ensures value { λ _. ⌜ controlAt (now (k .exit)) ≡ withIC (controlAt (now (k .entry))) (sum24 (controlAt (now (k .entry)) .ic) 2) ⌝ }
     ensures kept { λ _. ⌜ IsRow (now (k .exit)) ⌝ }
 {
-    let a = row::ic(k);
+    let a = control_row::ic(k);
     let n = integer::sum24(a, 2);
-    row::set_ic(k, n);
+    control_row::set_ic(k, n);
 }
 
 // v is the instruction at IC, with the key of its cell over it.
@@ -260,20 +253,20 @@ fn decode(
     ensures kept { λ _. ⌜ IsRow (now (k .exit)) ⌝ }
     ensures channel { λ _. ⌜ IsChannel (now (h .exit)) (now (characters .entry)) (now (typing .exit)) ⌝ }
 {
-    if is_fetch_violation(k, v / WORD) {
+    if is_fetch_violation(k, v / WORD_RANGE) {
         raise_ic(k);
         return End::Faulted;
     }
-    let i = Instruction::of_word(v % WORD);
+    let i = Instruction::of_word(v % WORD_RANGE);
     let a = address(s, k, i);
     raise_ic(k);
-    row::set_pending(k, 0);
-    operate(s, k, h, characters, typing, i, a)
+    control_row::set_pending(k, 0);
+    execute_instruction(s, k, h, characters, typing, i, a)
 }
 
 // IC or IC + 1 does not exist.
 fn is_fetch_absent(s: &[u32], ic: u32) -> bool
-    requires { ⌜ (ic < 16777216) × (length (now s) ≤ 8388608) ⌝ }
+    requires { ⌜ (ic < wordRange) × (length (now s) ≤ 8388608) ⌝ }
     ensures { λ r. ⌜ r ≡ fetchAbsent (now (s .entry)) ic ⌝ }
 {
     let h = rotated(ic);
@@ -289,12 +282,12 @@ fn is_fetch_absent(s: &[u32], ic: u32) -> bool
 
 // The instruction is read before the tests, where an absent cell reads as 0: so one comparison serves the reading and the test.
 fn fetch(s: &mut [u32], k: &mut Row, h: &mut Channel, characters: &[u8], typing: &mut [u8]) -> End
-    requires { ⌜ (controlAt (now k) .ic < 16777216) × (length (now s) ≤ 8388608) × IsRow (now k) × IsChannel (now h) (now characters) (now typing) ⌝ }
+    requires { ⌜ (controlAt (now k) .ic < wordRange) × (length (now s) ≤ 8388608) × IsRow (now k) × IsChannel (now h) (now characters) (now typing) ⌝ }
     ensures value { λ r. ⌜ endingWith (channelAt (now (h .exit)) (now (characters .entry)) (now (typing .exit))) (endingOf r (now (s .exit)) (controlAt (now (k .exit)))) ≡ ending (fetch (now (s .entry)) (controlAt (now (k .entry))) (channelAt (now (h .entry)) (now (characters .entry)) (now (typing .entry)))) ⌝ }
     ensures kept { λ _. ⌜ IsRow (now (k .exit)) ⌝ }
     ensures channel { λ _. ⌜ IsChannel (now (h .exit)) (now (characters .entry)) (now (typing .exit)) ⌝ }
 {
-    let ic = row::ic(k);
+    let ic = control_row::ic(k);
     let v = fetched(s, ic);
     if is_fetch_absent(s, ic) {
         return End::Faulted;
@@ -309,7 +302,7 @@ pub fn cycle(
     characters: &[u8],
     typing: &mut [u8],
 ) -> CycleEnd
-    requires { ⌜ (controlAt (now k) .ic < 16777216) × (length (now s) ≤ 8388608) × IsRow (now k) × IsChannel (now h) (now characters) (now typing) ⌝ }
+    requires { ⌜ (controlAt (now k) .ic < wordRange) × (length (now s) ≤ 8388608) × IsRow (now k) × IsChannel (now h) (now characters) (now typing) ⌝ }
     ensures value { λ r. ⌜ cycleOf r (now (s .exit)) (controlAt (now (k .exit))) (channelAt (now (h .exit)) (now (characters .entry)) (now (typing .exit))) ≡ cycle (machine (now (s .entry)) (controlAt (now (k .entry))) (channelAt (now (h .entry)) (now (characters .entry)) (now (typing .entry)))) ⌝ }
     ensures kept { λ _. ⌜ IsRow (now (k .exit)) ⌝ }
     ensures channel { λ _. ⌜ IsChannel (now (h .exit)) (now (characters .entry)) (now (typing .exit)) ⌝ }

@@ -10,13 +10,13 @@ use Rattle.machine.specs.declared.Control.{Control}
 use Rattle.machine.specs.declared.Fault.the-variants.{Privileged}
 use Rattle.machine.specs.Store.{putWord, putKey, absent}
 use Rattle.machine.specs.Fields.{inTask, flagsCleared}
-use Rattle.row.specs.Answers.{completed, faulted, ending}
-use Rattle.definition.specs.Machine.{Channel, Machine, machine, fault}
-use Rattle.definition.specs.Channel.{readFrom, fourLeft, shiftedIn, assembled}
-use Rattle.definition.specs.MicroOps.{microStep, monitorStep, deviceStep, deviceSteps}
-use Rattle.definition.specs.Meaning.{AW, autoloading, deviceMeaning}
-use Rattle.definition.specs.Codes.{executingDevice}
-use Rattle.definition.proofs.DeviceLaws.{task-device}
+use Rattle.control_row.specs.Answers.{completed, faulted, ending}
+use Rattle.definition_instructions.specs.Machine.{Channel, Machine, machine, fault}
+use Rattle.definition_instructions.specs.Channel.{readFrom, fourLeft, shiftedIn, assembled}
+use Rattle.definition_instructions.specs.MicroOps.{microStep, monitorStep, deviceStep, deviceSteps}
+use Rattle.definition_instructions.specs.Meaning.{AW, autoloading, deviceMeaning}
+use Rattle.definition_instructions.specs.Codes.{executeDevice}
+use Rattle.definition_instructions.proofs.DeviceLaws.{task-device}
 
 -- AR after four reads of device 0
 abbrev pub fourRead : Channel → ℕ
@@ -67,6 +67,6 @@ unfolding deviceSteps deviceStep monitorStep microStep autoloading
 any-register w sb cs m = refl
 
 -- Test Mode comes first
-pub autoload-in-task : (w sb : ℕ) (s : List ℕ) (c : Control) (h : Channel) → inTask c ≡ true → executingDevice AW w sb (machine s c h) ≡ fault Privileged (machine s c h)
-unfolding executingDevice inTask
+pub autoload-in-task : (w sb : ℕ) (s : List ℕ) (c : Control) (h : Channel) → inTask c ≡ true → executeDevice AW w sb (machine s c h) ≡ fault Privileged (machine s c h)
+unfolding executeDevice inTask
 autoload-in-task w sb s c h e = task-device w (deviceMeaning AW sb (machine s c h)) (machine s c h) (not-true _ e)

@@ -2,21 +2,22 @@
 ghost use mathlib.Core.Path.{_≡_};
 ghost use mathlib.Core.Bool.{true};
 ghost use Prim.Native.Nat.{_/_, _<_};
-ghost use Rattle.row.specs.Row.{controlAt, IsRow};
-ghost use Rattle.row.specs.Answers.{ending, endingOf, endingWith};
+ghost use Rattle.registers.specs.Reg.{wordRange};
+ghost use Rattle.control_row.specs.Row.{controlAt, IsRow};
+ghost use Rattle.control_row.specs.Answers.{ending, endingOf, endingWith};
 ghost use Rattle.machine.specs.Fields.{flagsCleared};
 ghost use Rattle.machine.specs.Store.{putWord, putKey};
-ghost use Rattle.definition.specs.Machine.{machine};
-ghost use Rattle.definition.specs.Channel.{readFrom, shiftedIn, fourLeft};
-ghost use Rattle.definition.specs.MicroOps.{deviceSteps};
-ghost use Rattle.definition.specs.Meaning.{IO, AW, rejection, autoloading};
-ghost use Rattle.definition.specs.Codes.{executingDevice};
-ghost use Rattle.channel.specs.Row.{channelAt, IsChannel};
-use channel::Channel;
+ghost use Rattle.definition_instructions.specs.Machine.{machine};
+ghost use Rattle.definition_instructions.specs.Channel.{readFrom, shiftedIn, fourLeft};
+ghost use Rattle.definition_instructions.specs.MicroOps.{deviceSteps};
+ghost use Rattle.definition_instructions.specs.Meaning.{IO, AW, rejection, autoloading};
+ghost use Rattle.definition_instructions.specs.Codes.{executeDevice};
+ghost use Rattle.channel_row.specs.Row.{channelAt, IsChannel};
+use channel_row::Channel;
+use control_row::End;
+use control_row::Row;
 use machine::Control;
-use machine::WORD;
-use row::End;
-use row::Row;
+use registers::WORD_RANGE;
 
 // EX(22:23): disconnected, busy.
 fn rejection(rejected: bool) -> u32
@@ -37,22 +38,22 @@ pub fn io(
     sb: u32,
 ) -> End
     requires { ⌜ IsRow (now k) × IsChannel (now h) (now characters) (now typing) ⌝ }
-    ensures value { λ r. ⌜ endingWith (channelAt (now (h .exit)) (now (characters .entry)) (now (typing .exit))) (endingOf r (now (s .exit)) (controlAt (now (k .exit)))) ≡ ending (executingDevice IO w sb (machine (now (s .entry)) (controlAt (now (k .entry))) (channelAt (now (h .entry)) (now (characters .entry)) (now (typing .entry))))) ⌝ }
+    ensures value { λ r. ⌜ endingWith (channelAt (now (h .exit)) (now (characters .entry)) (now (typing .exit))) (endingOf r (now (s .exit)) (controlAt (now (k .exit)))) ≡ ending (executeDevice IO w sb (machine (now (s .entry)) (controlAt (now (k .entry))) (channelAt (now (h .entry)) (now (characters .entry)) (now (typing .entry))))) ⌝ }
     ensures kept { λ _. ⌜ IsRow (now (k .exit)) ⌝ }
     ensures channel { λ _. ⌜ IsChannel (now (h .exit)) (now (characters .entry)) (now (typing .exit)) ⌝ }
 {
-    if row::is_task(k) {
+    if control_row::is_task(k) {
         return End::Faulted;
     }
-    let rejected = channel::is_disconnected(h, characters, typing, sb / 64, sb % 4);
+    let rejected = channel_row::is_disconnected(h, characters, typing, sb / 64, sb % 4);
     let r = rejection(rejected);
-    let x = row::ex(k);
-    row::set_ex(k, x / 4 * 4 + r);
+    let x = control_row::ex(k);
+    control_row::set_ex(k, x / 4 * 4 + r);
     if rejected {
         return End::Done;
     }
     if sb % 4 == 0 {
-        let v = channel::buffer_at(h, characters, typing, sb / 64);
+        let v = channel_row::buffer_at(h, characters, typing, sb / 64);
         machine::put_word(s, w, v);
         return End::Done;
     }
@@ -60,35 +61,35 @@ pub fn io(
         return End::Done;
     }
     if sb % 4 == 2 {
-        channel::read(h, characters, typing, sb / 64);
+        channel_row::read(h, characters, typing, sb / 64);
         return End::Done;
     }
     let v = machine::word_at(s, w);
-    channel::write(h, characters, typing, sb / 64, v);
+    channel_row::write(h, characters, typing, sb / 64, v);
     End::Done
 }
 
 // AR(0:17) := AR(6:23); AR(18:23) := 0; AR := AR or SB.
 fn shift_in(ar: u32, sb: u32) -> u32
-    requires { ⌜ (ar < 16777216) × (sb < 16777216) ⌝ }
+    requires { ⌜ (ar < wordRange) × (sb < wordRange) ⌝ }
     ensures value { λ r. ⌜ r ≡ shiftedIn ar sb ⌝ }
-    ensures bound { λ r. ⌜ r < 16777216 ⌝ }
+    ensures bound { λ r. ⌜ r < wordRange ⌝ }
 {
-    integer::or24(ar * 64 % WORD, sb)
+    integer::or24(ar * 64 % WORD_RANGE, sb)
 }
 
 // Start Input: the next character is read, and shifted into AR.
 fn input(k: &mut Row, h: &mut Channel, characters: &[u8], typing: &[u8], ar: u32) -> u32
-    requires { ⌜ (ar < 16777216) × IsRow (now k) × IsChannel (now h) (now characters) (now typing) ⌝ }
+    requires { ⌜ (ar < wordRange) × IsRow (now k) × IsChannel (now h) (now characters) (now typing) ⌝ }
     ensures register { λ r. ⌜ r ≡ shiftedIn ar (channelAt (now (h .exit)) (now (characters .entry)) (now (typing .entry)) .reader) ⌝ }
-    ensures bound { λ r. ⌜ r < 16777216 ⌝ }
+    ensures bound { λ r. ⌜ r < wordRange ⌝ }
     ensures control { λ _. ⌜ controlAt (now (k .exit)) ≡ flagsCleared (controlAt (now (k .entry))) ⌝ }
     ensures channel { λ _. ⌜ channelAt (now (h .exit)) (now (characters .entry)) (now (typing .entry)) ≡ readFrom 0 (channelAt (now (h .entry)) (now (characters .entry)) (now (typing .entry))) ⌝ }
     ensures kept { λ _. ⌜ IsRow (now (k .exit)) × IsChannel (now (h .exit)) (now (characters .entry)) (now (typing .entry)) ⌝ }
 {
-    channel::read(h, characters, typing, 0);
-    row::clear_flags(k);
-    let c = channel::buffer_at(h, characters, typing, 0);
+    channel_row::read(h, characters, typing, 0);
+    control_row::clear_flags(k);
+    let c = channel_row::buffer_at(h, characters, typing, 0);
     shift_in(ar, c)
 }
 
@@ -136,17 +137,17 @@ pub fn aw(
     sb: u32,
 ) -> End
     requires { ⌜ IsRow (now k) × IsChannel (now h) (now characters) (now typing) ⌝ }
-    ensures value { λ r. ⌜ endingWith (channelAt (now (h .exit)) (now (characters .entry)) (now (typing .entry))) (endingOf r (now (s .exit)) (controlAt (now (k .exit)))) ≡ ending (executingDevice AW w sb (machine (now (s .entry)) (controlAt (now (k .entry))) (channelAt (now (h .entry)) (now (characters .entry)) (now (typing .entry))))) ⌝ }
+    ensures value { λ r. ⌜ endingWith (channelAt (now (h .exit)) (now (characters .entry)) (now (typing .entry))) (endingOf r (now (s .exit)) (controlAt (now (k .exit)))) ≡ ending (executeDevice AW w sb (machine (now (s .entry)) (controlAt (now (k .entry))) (channelAt (now (h .entry)) (now (characters .entry)) (now (typing .entry))))) ⌝ }
     ensures kept { λ _. ⌜ IsRow (now (k .exit)) ⌝ }
     ensures channel { λ _. ⌜ IsChannel (now (h .exit)) (now (characters .entry)) (now (typing .entry)) ⌝ }
 {
-    if row::is_task(k) {
+    if control_row::is_task(k) {
         return End::Faulted;
     }
-    if channel::has_four(h, characters, typing) {
+    if channel_row::has_four(h, characters, typing) {
         return autoload(s, k, h, characters, typing, sb);
     }
-    let n = row::ic(k);
+    let n = control_row::ic(k);
     machine::put_word(s, Control::RETURN_ADDRESS / 2, n);
     End::Reset
 }

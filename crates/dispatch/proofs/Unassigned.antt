@@ -7,12 +7,12 @@ use mathlib.Core.List.{List, [], _∷_}
 use lib.Dec.{ltb}
 use borrow.Author.Tests.{ltb-true, ne-eqb}
 use Rattle.machine.specs.declared.Control.{Control}
-use Rattle.definition.specs.Machine.{Channel, machine}
-use Rattle.definition.specs.MicroOps.{perform}
-use Rattle.definition.specs.Meaning.{None, meaning}
-use Rattle.definition.specs.Codes.{internal, Code, codes, lookup, executing, operating}
-use Rattle.definition.proofs.Validity.{both}
-use Rattle.row.specs.Answers.{faulted, ending}
+use Rattle.definition_instructions.specs.Machine.{Channel, machine}
+use Rattle.definition_instructions.specs.MicroOps.{executeOperation}
+use Rattle.definition_instructions.specs.Meaning.{None, meaning}
+use Rattle.definition_instructions.specs.Codes.{internal, Code, codes, lookup, execute, executeCode}
+use Rattle.definition_instructions.proofs.Validity.{both}
+use Rattle.control_row.specs.Answers.{faulted, ending}
 
 -- x is none of a, .., a + k - 1: what the last arm of a match is told
 abbrev pub NoneFrom : ℕ → ℕ → ℕ → Type 0
@@ -43,6 +43,6 @@ all-below : below 58 codes ≡ true
 unfolding below codes
 all-below = refl
 
-pub unassigned-code : (f w sb : ℕ) (s : List ℕ) (c : Control) (h : Channel) → 58 ≤ f → faulted (machine s c h) ≡ ending (operating f w sb (machine s c h))
-unfolding operating executing perform meaning
+pub unassigned-code : (f w sb : ℕ) (s : List ℕ) (c : Control) (h : Channel) → 58 ≤ f → faulted (machine s c h) ≡ ending (executeCode f w sb (machine s c h))
+unfolding executeCode execute executeOperation meaning
 unassigned-code f w sb s c h l = rw (lookup-beyond f 58 codes all-below l)

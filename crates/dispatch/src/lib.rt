@@ -2,17 +2,18 @@
 // leaves the instructions as calls.
 ghost use mathlib.Core.Path.{_≡_};
 ghost use Prim.Native.Nat.{_<_, _≤_};
-ghost use Rattle.row.specs.Row.{controlAt, IsRow};
-ghost use Rattle.row.specs.Answers.{ending, endingOf, endingWith};
-ghost use Rattle.definition.specs.Machine.{Channel, machine};
-ghost use Rattle.channel.specs.Row.{channelAt, IsChannel};
-ghost use Rattle.definition.specs.Codes.{operating};
-use channel::Channel;
-use row::End;
-use row::Row;
+ghost use Rattle.registers.specs.Reg.{wordRange};
+ghost use Rattle.control_row.specs.Row.{controlAt, IsRow};
+ghost use Rattle.control_row.specs.Answers.{ending, endingOf, endingWith};
+ghost use Rattle.definition_instructions.specs.Machine.{Channel, machine};
+ghost use Rattle.channel_row.specs.Row.{channelAt, IsChannel};
+ghost use Rattle.definition_instructions.specs.Codes.{executeCode};
+use channel_row::Channel;
+use control_row::End;
+use control_row::Row;
 
 // The codes 0 to 31.
-fn operate_low(
+fn execute_low(
     s: &mut [u32],
     k: &mut Row,
     h: &mut Channel,
@@ -22,8 +23,8 @@ fn operate_low(
     w: u32,
     sb: u32,
 ) -> End
-    requires { ⌜ (f < 32) × (sb < 16777216) × IsRow (now k) × IsChannel (now h) (now characters) (now typing) ⌝ }
-    ensures value { λ r. ⌜ endingWith (channelAt (now (h .exit)) (now (characters .entry)) (now (typing .exit))) (endingOf r (now (s .exit)) (controlAt (now (k .exit)))) ≡ ending (operating f w sb (machine (now (s .entry)) (controlAt (now (k .entry))) (channelAt (now (h .entry)) (now (characters .entry)) (now (typing .entry))))) ⌝ }
+    requires { ⌜ (f < 32) × (sb < wordRange) × IsRow (now k) × IsChannel (now h) (now characters) (now typing) ⌝ }
+    ensures value { λ r. ⌜ endingWith (channelAt (now (h .exit)) (now (characters .entry)) (now (typing .exit))) (endingOf r (now (s .exit)) (controlAt (now (k .exit)))) ≡ ending (executeCode f w sb (machine (now (s .entry)) (controlAt (now (k .entry))) (channelAt (now (h .entry)) (now (characters .entry)) (now (typing .entry))))) ⌝ }
     ensures kept { λ _. ⌜ IsRow (now (k .exit)) ⌝ }
     ensures channel { λ _. ⌜ IsChannel (now (h .exit)) (now (characters .entry)) (now (typing .exit)) ⌝ }
 {
@@ -65,9 +66,9 @@ fn operate_low(
 }
 
 // The codes 32 to 57; those from 58 on are not used.
-fn operate_high(s: &mut [u32], k: &mut Row, f: u32, w: u32, sb: u32) -> End
-    requires { ⌜ (32 ≤ f) × (sb < 16777216) × IsRow (now k) ⌝ }
-    ensures value { λ r. ⌜ ((h : Channel) → endingWith h (endingOf r (now (s .exit)) (controlAt (now (k .exit)))) ≡ ending (operating f w sb (machine (now (s .entry)) (controlAt (now (k .entry))) h))) ⌝ }
+fn execute_high(s: &mut [u32], k: &mut Row, f: u32, w: u32, sb: u32) -> End
+    requires { ⌜ (32 ≤ f) × (sb < wordRange) × IsRow (now k) ⌝ }
+    ensures value { λ r. ⌜ ((h : Channel) → endingWith h (endingOf r (now (s .exit)) (controlAt (now (k .exit)))) ≡ ending (executeCode f w sb (machine (now (s .entry)) (controlAt (now (k .entry))) h))) ⌝ }
     ensures kept { λ _. ⌜ IsRow (now (k .exit)) ⌝ }
 {
     match f {
@@ -101,7 +102,7 @@ fn operate_high(s: &mut [u32], k: &mut Row, f: u32, w: u32, sb: u32) -> End
     }
 }
 
-pub fn operate(
+pub fn execute(
     s: &mut [u32],
     k: &mut Row,
     h: &mut Channel,
@@ -111,14 +112,14 @@ pub fn operate(
     w: u32,
     sb: u32,
 ) -> End
-    requires { ⌜ (sb < 16777216) × IsRow (now k) × IsChannel (now h) (now characters) (now typing) ⌝ }
-    ensures value { λ r. ⌜ endingWith (channelAt (now (h .exit)) (now (characters .entry)) (now (typing .exit))) (endingOf r (now (s .exit)) (controlAt (now (k .exit)))) ≡ ending (operating f w sb (machine (now (s .entry)) (controlAt (now (k .entry))) (channelAt (now (h .entry)) (now (characters .entry)) (now (typing .entry))))) ⌝ }
+    requires { ⌜ (sb < wordRange) × IsRow (now k) × IsChannel (now h) (now characters) (now typing) ⌝ }
+    ensures value { λ r. ⌜ endingWith (channelAt (now (h .exit)) (now (characters .entry)) (now (typing .exit))) (endingOf r (now (s .exit)) (controlAt (now (k .exit)))) ≡ ending (executeCode f w sb (machine (now (s .entry)) (controlAt (now (k .entry))) (channelAt (now (h .entry)) (now (characters .entry)) (now (typing .entry))))) ⌝ }
     ensures kept { λ _. ⌜ IsRow (now (k .exit)) ⌝ }
     ensures channel { λ _. ⌜ IsChannel (now (h .exit)) (now (characters .entry)) (now (typing .exit)) ⌝ }
 {
     if f < 32 {
-        operate_low(s, k, h, characters, typing, f, w, sb)
+        execute_low(s, k, h, characters, typing, f, w, sb)
     } else {
-        operate_high(s, k, f, w, sb)
+        execute_high(s, k, f, w, sb)
     }
 }

@@ -27,20 +27,20 @@ abbrev pub kept : ℕ → ℕ → Divided
 kept pre w = record { pre = pre; word = w; over = 1 }
 
 -- Wpre := AR(0:23); W := BR
-abbrev pub stored : ℕ → ℕ → Divided
-stored ar br = record { pre = ar % 2 ^ 24; word = br % 2 ^ 24; over = 0 }
+abbrev pub storedDivision : ℕ → ℕ → Divided
+storedDivision ar br = record { pre = ar % 2 ^ 24; word = br % 2 ^ 24; over = 0 }
 
 -- if AR <> 0 and AR(-1) <> Wpre(0) then
 -- begin if AR(-1) = SB(0) then begin AR := AR - signed SB; BR := BR + 1 end else begin AR := AR + signed SB; BR := BR - 1 end end
 unfoldable pub wdSign : ℕ → ℕ → ℕ → ℕ → Divided
 wdSign pre s ar br =
     cond (eqb ar 0)
-    (stored ar br)
+    (storedDivision ar br)
     (cond (eqb (sign 25 ar) (sign 24 pre))
-    (stored ar br)
+    (storedDivision ar br)
     (cond (eqb (sign 25 ar) (sign 24 s))
-    (stored (ar + (2 ^ 25 - signed 24 25 s)) (br + 1))
-    (stored (ar + signed 24 25 s) (br + (2 ^ 24 - 1)))))
+    (storedDivision (ar + (2 ^ 25 - signed 24 25 s)) (br + 1))
+    (storedDivision (ar + signed 24 25 s) (br + (2 ^ 24 - 1)))))
 
 -- where abs(AR(-1:22)) = abs(SB): if SB < 0 then BR := BR - 1 else begin BR := BR + 1; if AR(23) = BR(0) then Quotient Overflow end; AR := 0.
 -- The two signs are as printed: an exact division with an even quotient is then off by two, or a Quotient Overflow where BR(0) changes (docs/DECISIONS.md A2).

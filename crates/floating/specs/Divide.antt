@@ -3,7 +3,7 @@ use Prim.Native.Nat.{ℕ, _+_, _-_, _*_, _/_, _%_, _^_}
 use mathlib.Core.Path.{_≡_, refl}
 use mathlib.Core.Bool.{Bool, not, cond}
 use lib.Dec.{eqb}
-use Rattle.registers.specs.Reg.{bit, sign, signed, shl, until}
+use Rattle.registers.specs.Reg.{bitFromRight, sign, signed, shl, until}
 use Rattle.rounding.specs.declared.Unpacked.{Unpacked}
 use Rattle.rounding.specs.declared.Pair.{Pair}
 use Rattle.rounding.specs.Round.{normalizeRound, normalizeOnce, leftShifts, afLeft}
@@ -43,7 +43,7 @@ fdStep x q =
 
 -- BF(0) <> BF(1)
 abbrev pub fdStop : Quotient → Bool
-fdStop q = not (eqb (sign 36 (q .bf)) (bit 34 (q .bf)))
+fdStop q = not (eqb (sign 36 (q .bf)) (bitFromRight 34 (q .bf)))
 
 -- for SC := SC, SC - 1 while BF(0) = BF(1) do ..; 71 passes are enough (`arithmetic_promises`, DivideEnds)
 unfoldable pub fdLoop : ℕ → ℕ → Quotient

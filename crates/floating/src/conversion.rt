@@ -5,6 +5,9 @@ ghost use Rattle.floating.specs.Operands.{fraction, registerFraction};
 ghost use Rattle.floating.specs.Convert.{cfRounded, cfEnd, cfByPlaces, cf};
 use super::Converted;
 use super::accumulator;
+use registers::BIT_0;
+use registers::LONG_WORD_RANGE;
+use registers::WORD_RANGE;
 
 // The rounding, and the test for overflow.
 fn rounded(word: u32, af: u64) -> Converted
@@ -14,7 +17,7 @@ fn rounded(word: u32, af: u64) -> Converted
     let t = (af + af / 8192 % 2 * 16384) % 549755813888;
     if t / 274877906944 == t / 137438953472 % 2 {
         Converted {
-            word: t / 16384 % 16777216,
+            word: t / 16384 % LONG_WORD_RANGE,
             over: 0,
         }
     } else {
@@ -30,7 +33,7 @@ fn by_places(b: u32, word: u32, af: u64) -> Converted
     requires { ⌜ af < 2 ^ 39 ⌝ }
     ensures { λ r. ⌜ r ≡ cfByPlaces b word af ⌝ }
 {
-    if b < 8388608 {
+    if b < BIT_0 {
         if af == 0 {
             return rounded(word, af);
         }
@@ -42,7 +45,7 @@ fn by_places(b: u32, word: u32, af: u64) -> Converted
     if b >= 8388672 {
         return rounded(word, 0);
     }
-    rounded(word, accumulator::shift_af(b - 8388608, af))
+    rounded(word, accumulator::shift_af(b - BIT_0, af))
 }
 
 // AF(-1:35) := signed Wfrac; AF(36:37) := 0.
@@ -58,7 +61,7 @@ pub fn convert(pre: u32, word: u32, sb: u32) -> Converted
     requires { ⌜ (pre < 2 ^ 24) × (word < 2 ^ 24) × (sb < 2 ^ 24) ⌝ }
     ensures { λ r. ⌜ r ≡ cf pre word sb ⌝ }
 {
-    let e = registers::signed24(word % 4096);
-    let n = (23 + (16777216 - sb) + (16777216 - e)) % 16777216;
-    by_places((n + 8388608) % 16777216, word, register_fraction(pre, word))
+    let e = registers::signed_byte(word % 4096);
+    let n = (23 + (WORD_RANGE - sb) + (WORD_RANGE - e)) % WORD_RANGE;
+    by_places((n + BIT_0) % WORD_RANGE, word, register_fraction(pre, word))
 }

@@ -1,25 +1,26 @@
 // Conversions and floating-point arithmetic (14.8): each function does the micro-operations of its meaning, in their order.
 ghost use mathlib.Core.Path.{_≡_};
 ghost use Prim.Native.Nat.{_<_};
-ghost use Rattle.row.specs.Row.{controlAt, IsRow};
-ghost use Rattle.row.specs.Answers.{ending, endingOf};
-ghost use Rattle.definition.specs.Codes.{executing};
-ghost use Rattle.definition.specs.Meaning.{CI, CF, FA, FS, FM, FD};
+ghost use Rattle.registers.specs.Reg.{wordRange};
+ghost use Rattle.control_row.specs.Row.{controlAt, IsRow};
+ghost use Rattle.control_row.specs.Answers.{ending, endingOf};
+ghost use Rattle.definition_instructions.specs.Codes.{execute};
+ghost use Rattle.definition_instructions.specs.Meaning.{CI, CF, FA, FS, FM, FD};
+use control_row::End;
+use control_row::Row;
 use machine::FLOATING_OVERFLOW;
 use machine::INTEGER_OVERFLOW;
-use row::End;
-use row::Row;
 
 // Convert Integer to Floating.
 pub fn ci(s: &mut [u32], k: &mut Row, w: u32, sb: u32) -> End
     requires { ⌜ IsRow (now k) ⌝ }
-    ensures value { λ r. ⌜ endingOf r (now (s .exit)) (controlAt (now (k .exit))) ≡ ending (executing CI w sb (now (s .entry)) (controlAt (now (k .entry)))) ⌝ }
+    ensures value { λ r. ⌜ endingOf r (now (s .exit)) (controlAt (now (k .exit))) ≡ ending (execute CI w sb (now (s .entry)) (controlAt (now (k .entry)))) ⌝ }
     ensures kept { λ _. ⌜ IsRow (now (k .exit)) ⌝ }
 {
-    row::clear_flags(k);
+    control_row::clear_flags(k);
     let x = machine::word_at(s, w);
     let r = rounding::convert_integer(x, sb);
-    row::note_overflow(k, r.over, FLOATING_OVERFLOW);
+    control_row::note_overflow(k, r.over, FLOATING_OVERFLOW);
     let p = machine::previous_register(w);
     machine::put_long(s, p, r.pre);
     machine::put_long(s, w, r.word);
@@ -28,16 +29,16 @@ pub fn ci(s: &mut [u32], k: &mut Row, w: u32, sb: u32) -> End
 
 // Convert Floating to Integer.
 pub fn cf(s: &mut [u32], k: &mut Row, w: u32, sb: u32) -> End
-    requires { ⌜ (sb < 16777216) × IsRow (now k) ⌝ }
-    ensures value { λ r. ⌜ endingOf r (now (s .exit)) (controlAt (now (k .exit))) ≡ ending (executing CF w sb (now (s .entry)) (controlAt (now (k .entry)))) ⌝ }
+    requires { ⌜ (sb < wordRange) × IsRow (now k) ⌝ }
+    ensures value { λ r. ⌜ endingOf r (now (s .exit)) (controlAt (now (k .exit))) ≡ ending (execute CF w sb (now (s .entry)) (controlAt (now (k .entry)))) ⌝ }
     ensures kept { λ _. ⌜ IsRow (now (k .exit)) ⌝ }
 {
-    row::clear_flags(k);
+    control_row::clear_flags(k);
     let p = machine::previous_register(w);
     let u = machine::word_at(s, p);
     let x = machine::word_at(s, w);
     let r = floating::convert_floating(u, x, sb);
-    row::note_overflow(k, r.over, INTEGER_OVERFLOW);
+    control_row::note_overflow(k, r.over, INTEGER_OVERFLOW);
     machine::put_long(s, w, r.word);
     End::Done
 }
@@ -45,11 +46,11 @@ pub fn cf(s: &mut [u32], k: &mut Row, w: u32, sb: u32) -> End
 // Add Floating.
 pub fn fa(s: &mut [u32], k: &mut Row, w: u32, sb: u32) -> End
     requires { ⌜ IsRow (now k) ⌝ }
-    ensures value { λ r. ⌜ endingOf r (now (s .exit)) (controlAt (now (k .exit))) ≡ ending (executing FA w sb (now (s .entry)) (controlAt (now (k .entry)))) ⌝ }
+    ensures value { λ r. ⌜ endingOf r (now (s .exit)) (controlAt (now (k .exit))) ≡ ending (execute FA w sb (now (s .entry)) (controlAt (now (k .entry)))) ⌝ }
     ensures kept { λ _. ⌜ IsRow (now (k .exit)) ⌝ }
 {
-    let e = row::ex(k);
-    row::clear_flags(k);
+    let e = control_row::ex(k);
+    control_row::clear_flags(k);
     if machine::is_absent(s, sb) {
         return End::Faulted;
     }
@@ -60,7 +61,7 @@ pub fn fa(s: &mut [u32], k: &mut Row, w: u32, sb: u32) -> End
     let u = machine::word_at(s, a / 2);
     let v = machine::word_at(s, sb / 2);
     let r = floating::add(e, x, y, u, v);
-    row::note_overflow(k, r.over, FLOATING_OVERFLOW);
+    control_row::note_overflow(k, r.over, FLOATING_OVERFLOW);
     machine::put_long(s, p, r.pre);
     machine::put_long(s, w, r.word);
     End::Done
@@ -69,11 +70,11 @@ pub fn fa(s: &mut [u32], k: &mut Row, w: u32, sb: u32) -> End
 // Subtract Floating.
 pub fn fs(s: &mut [u32], k: &mut Row, w: u32, sb: u32) -> End
     requires { ⌜ IsRow (now k) ⌝ }
-    ensures value { λ r. ⌜ endingOf r (now (s .exit)) (controlAt (now (k .exit))) ≡ ending (executing FS w sb (now (s .entry)) (controlAt (now (k .entry)))) ⌝ }
+    ensures value { λ r. ⌜ endingOf r (now (s .exit)) (controlAt (now (k .exit))) ≡ ending (execute FS w sb (now (s .entry)) (controlAt (now (k .entry)))) ⌝ }
     ensures kept { λ _. ⌜ IsRow (now (k .exit)) ⌝ }
 {
-    let e = row::ex(k);
-    row::clear_flags(k);
+    let e = control_row::ex(k);
+    control_row::clear_flags(k);
     if machine::is_absent(s, sb) {
         return End::Faulted;
     }
@@ -84,7 +85,7 @@ pub fn fs(s: &mut [u32], k: &mut Row, w: u32, sb: u32) -> End
     let u = machine::word_at(s, a / 2);
     let v = machine::word_at(s, sb / 2);
     let r = floating::subtract(e, x, y, u, v);
-    row::note_overflow(k, r.over, FLOATING_OVERFLOW);
+    control_row::note_overflow(k, r.over, FLOATING_OVERFLOW);
     machine::put_long(s, p, r.pre);
     machine::put_long(s, w, r.word);
     End::Done
@@ -93,11 +94,11 @@ pub fn fs(s: &mut [u32], k: &mut Row, w: u32, sb: u32) -> End
 // Multiply Floating.
 pub fn fm(s: &mut [u32], k: &mut Row, w: u32, sb: u32) -> End
     requires { ⌜ IsRow (now k) ⌝ }
-    ensures value { λ r. ⌜ endingOf r (now (s .exit)) (controlAt (now (k .exit))) ≡ ending (executing FM w sb (now (s .entry)) (controlAt (now (k .entry)))) ⌝ }
+    ensures value { λ r. ⌜ endingOf r (now (s .exit)) (controlAt (now (k .exit))) ≡ ending (execute FM w sb (now (s .entry)) (controlAt (now (k .entry)))) ⌝ }
     ensures kept { λ _. ⌜ IsRow (now (k .exit)) ⌝ }
 {
-    let e = row::ex(k);
-    row::clear_flags(k);
+    let e = control_row::ex(k);
+    control_row::clear_flags(k);
     if machine::is_absent(s, sb) {
         return End::Faulted;
     }
@@ -108,7 +109,7 @@ pub fn fm(s: &mut [u32], k: &mut Row, w: u32, sb: u32) -> End
     let u = machine::word_at(s, a / 2);
     let v = machine::word_at(s, sb / 2);
     let r = floating::multiply(e, x, y, u, v);
-    row::note_overflow(k, r.over, FLOATING_OVERFLOW);
+    control_row::note_overflow(k, r.over, FLOATING_OVERFLOW);
     machine::put_long(s, p, r.pre);
     machine::put_long(s, w, r.word);
     End::Done
@@ -117,11 +118,11 @@ pub fn fm(s: &mut [u32], k: &mut Row, w: u32, sb: u32) -> End
 // Divide Floating.
 pub fn fd(s: &mut [u32], k: &mut Row, w: u32, sb: u32) -> End
     requires { ⌜ IsRow (now k) ⌝ }
-    ensures value { λ r. ⌜ endingOf r (now (s .exit)) (controlAt (now (k .exit))) ≡ ending (executing FD w sb (now (s .entry)) (controlAt (now (k .entry)))) ⌝ }
+    ensures value { λ r. ⌜ endingOf r (now (s .exit)) (controlAt (now (k .exit))) ≡ ending (execute FD w sb (now (s .entry)) (controlAt (now (k .entry)))) ⌝ }
     ensures kept { λ _. ⌜ IsRow (now (k .exit)) ⌝ }
 {
-    let e = row::ex(k);
-    row::clear_flags(k);
+    let e = control_row::ex(k);
+    control_row::clear_flags(k);
     if machine::is_absent(s, sb) {
         return End::Faulted;
     }
@@ -132,7 +133,7 @@ pub fn fd(s: &mut [u32], k: &mut Row, w: u32, sb: u32) -> End
     let u = machine::word_at(s, a / 2);
     let v = machine::word_at(s, sb / 2);
     let r = floating::divide(e, x, y, u, v);
-    row::note_overflow(k, r.over, FLOATING_OVERFLOW);
+    control_row::note_overflow(k, r.over, FLOATING_OVERFLOW);
     machine::put_long(s, p, r.pre);
     machine::put_long(s, w, r.word);
     End::Done

@@ -3,12 +3,12 @@ use Prim.Native.Nat.{ℕ, zero, suc, _+_, _*_, _^_}
 use mathlib.Core.Path.{_≡_, refl}
 use mathlib.Core.Bool.{not, cond, _&&_, _||_}
 use lib.Dec.{eqb}
-use Rattle.registers.specs.Reg.{bit}
+use Rattle.registers.specs.Reg.{bitFromRight}
 
 -- the last n bits of the result, each by the rule from the bits at its place
 unfoldable pub each : (ℕ → ℕ → ℕ) → ℕ → ℕ → ℕ → ℕ
 each f zero a b = 0
-each f (suc n) a b = f (bit n a) (bit n b) * 2 ^ n + each f n a b
+each f (suc n) a b = f (bitFromRight n a) (bitFromRight n b) * 2 ^ n + each f n a b
 
 -- if W(bit) = 1 and SB(bit) = 1 then 1 else 0
 abbrev pub andBit : ℕ → ℕ → ℕ

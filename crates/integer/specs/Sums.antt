@@ -1,7 +1,7 @@
 -- Integer sums (manual, 14.3; 14.7 Test Integer; 14.8 WA, WS, AC, AA, SS): AR has 25 bits, AR(-1) the left-most.
 use Prim.Native.Nat.{ℕ, _+_, _/_, _%_, _^_}
 use mathlib.Core.Path.{_≡_, refl}
-use Rattle.registers.specs.Reg.{bit, signed, complement, bitsDiffer}
+use Rattle.registers.specs.Reg.{bitFromRight, signed, complement, bitsDiffer, wordRange}
 use Rattle.integer.specs.declared.Sum.{Sum}
 
 -- One pass of the adder, with a carry in: AR := A + B + c; W := AR(0:23); Test Integer: if AR(-1) <> AR(0) then overflow; EX(23) := carry.
@@ -10,7 +10,7 @@ abbrev pub adder : ℕ → ℕ → ℕ → Sum
 adder a b c =
     record {
       word = (a + b + c) % 2 ^ 24;
-      over = bitsDiffer (bit 24 (a + b + c)) (bit 23 (a + b + c));
+      over = bitsDiffer (bitFromRight 24 (a + b + c)) (bitFromRight 23 (a + b + c));
       carry = (a % 2 ^ 24 + b % 2 ^ 24 + c) / 2 ^ 24;
     }
 
@@ -32,7 +32,7 @@ differenceWithCarry a b c = adder (signed 24 25 a) (complement 25 (signed 24 25 
 
 -- Address sums drop every carry out of 24 bits.
 unfoldable pub sum24 : ℕ → ℕ → ℕ
-sum24 a b = (a + b) % 16777216
+sum24 a b = (a + b) % wordRange
 
 -- WA 8388607 + 1
 wa-over : sum 8388607 1 ≡ record { word = 8388608; over = 1; carry = 0 }

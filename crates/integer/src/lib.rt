@@ -1,9 +1,12 @@
 // Integer sums, logical operations and skip tests on words of 24 bits, held in u32.
 ghost use mathlib.Core.Path.{_≡_};
 ghost use Prim.Native.Nat.{_+_, _%_, _^_, _<_};
+ghost use Rattle.registers.specs.Reg.{wordRange};
 ghost use Rattle.integer.specs.Sums.{adder, sum, difference, sumWithCarry, differenceWithCarry, sum24};
 ghost use Rattle.integer.specs.Bitwise.{logicalAnd, logicalOr, logicalXor, cleared};
 ghost use Rattle.integer.specs.Skip.{comparison, isHigh, isLow, isEqual, isNotEqual, bitsOne, bitsZero};
+use registers::BIT_0;
+use registers::WORD_RANGE;
 
 // AR(0:23), and 1 for an overflow and for a carry.
 pub struct Sum {
@@ -28,9 +31,9 @@ fn add_once(a: u32, b: u32, c: u32) -> Sum
 {
     let t = a + b + c;
     Sum {
-        word: t % 16777216,
-        over: unequal(t / 16777216 % 2, t / 8388608 % 2),
-        carry: (a % 16777216 + b % 16777216 + c) / 16777216,
+        word: t % WORD_RANGE,
+        over: unequal(t / WORD_RANGE % 2, t / BIT_0 % 2),
+        carry: (a % WORD_RANGE + b % WORD_RANGE + c) / WORD_RANGE,
     }
 }
 
@@ -73,9 +76,9 @@ pub fn subtract_with_carry(a: u32, b: u32, c: u32) -> Sum
 // A sum of addresses: every carry out of 24 bits is dropped.
 pub fn sum24(a: u32, b: u32) -> u32
     ensures value { λ r. ⌜ r ≡ sum24 a b ⌝ }
-    ensures bound { λ r. ⌜ r < 16777216 ⌝ }
+    ensures bound { λ r. ⌜ r < wordRange ⌝ }
 {
-    std::num::wrapping_add_u32(a, b) % 16777216
+    std::num::wrapping_add_u32(a, b) % WORD_RANGE
 }
 
 // LA
@@ -128,7 +131,7 @@ pub fn is_high(w: u32, sb: u32) -> bool
     ensures { λ r. ⌜ r ≡ isHigh w sb ⌝ }
 {
     let ar = compare(w, sb);
-    0 < ar && ar < 16777216
+    0 < ar && ar < WORD_RANGE
 }
 
 // SL
@@ -136,7 +139,7 @@ pub fn is_low(w: u32, sb: u32) -> bool
     requires { ⌜ (w < 2 ^ 24) × (sb < 2 ^ 24) ⌝ }
     ensures { λ r. ⌜ r ≡ isLow w sb ⌝ }
 {
-    16777216 <= compare(w, sb)
+    WORD_RANGE <= compare(w, sb)
 }
 
 // SE

@@ -1,17 +1,17 @@
 // Integer arithmetic, logical operations and shifts (14.8): each function does the micro-operations of its meaning, in their order.
 ghost use mathlib.Core.Path.{_≡_};
 ghost use Prim.Native.Nat.{_<_};
+ghost use Rattle.registers.specs.Reg.{wordRange};
 ghost use Rattle.machine.specs.Fields.{overflowed, carrySet};
-ghost use Rattle.definition.specs.Operands.{integerOverflow};
-ghost use Rattle.row.specs.Row.{controlAt, IsRow};
-ghost use Rattle.row.specs.Answers.{ending, endingOf};
-ghost use Rattle.definition.specs.Codes.{executing};
-ghost use Rattle.definition.specs.Meaning.{AC, BA, BS, WA, WS, WM, WD, AA, SS, LA, LO, LX, AS, AD, LS, LD, NS, ND};
+ghost use Rattle.definition_instructions.specs.Operands.{integerOverflow};
+ghost use Rattle.control_row.specs.Row.{controlAt, IsRow};
+ghost use Rattle.control_row.specs.Answers.{ending, endingOf};
+ghost use Rattle.definition_instructions.specs.Codes.{execute};
+ghost use Rattle.definition_instructions.specs.Meaning.{AC, BA, BS, WA, WS, WM, WD, AA, SS, LA, LO, LX, AS, AD, LS, LD, NS, ND};
+use control_row::End;
+use control_row::Row;
 use integer::Sum;
 use machine::INTEGER_OVERFLOW;
-use row::End;
-use row::Row;
-use transfer_instructions::extend;
 
 // Test Integer.
 fn test_integer(k: &mut Row, r: Sum)
@@ -19,17 +19,17 @@ fn test_integer(k: &mut Row, r: Sum)
     ensures value { λ _. ⌜ controlAt (now (k .exit)) ≡ carrySet (overflowed (controlAt (now (k .entry))) (r .over) integerOverflow) (r .carry) ⌝ }
     ensures kept { λ _. ⌜ IsRow (now (k .exit)) ⌝ }
 {
-    row::note_overflow(k, r.over, INTEGER_OVERFLOW);
-    row::note_carry(k, r.carry);
+    control_row::note_overflow(k, r.over, INTEGER_OVERFLOW);
+    control_row::note_carry(k, r.carry);
 }
 
 // Load Address Complemented.
 pub fn ac(s: &mut [u32], k: &mut Row, w: u32, sb: u32) -> End
-    requires { ⌜ (sb < 16777216) × IsRow (now k) ⌝ }
-    ensures value { λ r. ⌜ endingOf r (now (s .exit)) (controlAt (now (k .exit))) ≡ ending (executing AC w sb (now (s .entry)) (controlAt (now (k .entry)))) ⌝ }
+    requires { ⌜ (sb < wordRange) × IsRow (now k) ⌝ }
+    ensures value { λ r. ⌜ endingOf r (now (s .exit)) (controlAt (now (k .exit))) ≡ ending (execute AC w sb (now (s .entry)) (controlAt (now (k .entry)))) ⌝ }
     ensures kept { λ _. ⌜ IsRow (now (k .exit)) ⌝ }
 {
-    row::clear_flags(k);
+    control_row::clear_flags(k);
     let r = integer::subtract(0, sb);
     machine::put_word(s, w, r.word);
     test_integer(k, r);
@@ -39,16 +39,16 @@ pub fn ac(s: &mut [u32], k: &mut Row, w: u32, sb: u32) -> End
 // Add Integer Byte.
 pub fn ba(s: &mut [u32], k: &mut Row, w: u32, sb: u32) -> End
     requires { ⌜ IsRow (now k) ⌝ }
-    ensures value { λ r. ⌜ endingOf r (now (s .exit)) (controlAt (now (k .exit))) ≡ ending (executing BA w sb (now (s .entry)) (controlAt (now (k .entry)))) ⌝ }
+    ensures value { λ r. ⌜ endingOf r (now (s .exit)) (controlAt (now (k .exit))) ≡ ending (execute BA w sb (now (s .entry)) (controlAt (now (k .entry)))) ⌝ }
     ensures kept { λ _. ⌜ IsRow (now (k .exit)) ⌝ }
 {
-    row::clear_flags(k);
+    control_row::clear_flags(k);
     if machine::is_absent(s, sb) {
         return End::Faulted;
     }
     let x = machine::word_at(s, w);
     let b = machine::byte_at(s, sb);
-    let y = extend(b);
+    let y = registers::signed_byte(b);
     let r = integer::add(x, y);
     machine::put_word(s, w, r.word);
     test_integer(k, r);
@@ -58,16 +58,16 @@ pub fn ba(s: &mut [u32], k: &mut Row, w: u32, sb: u32) -> End
 // Subtract Integer Byte.
 pub fn bs(s: &mut [u32], k: &mut Row, w: u32, sb: u32) -> End
     requires { ⌜ IsRow (now k) ⌝ }
-    ensures value { λ r. ⌜ endingOf r (now (s .exit)) (controlAt (now (k .exit))) ≡ ending (executing BS w sb (now (s .entry)) (controlAt (now (k .entry)))) ⌝ }
+    ensures value { λ r. ⌜ endingOf r (now (s .exit)) (controlAt (now (k .exit))) ≡ ending (execute BS w sb (now (s .entry)) (controlAt (now (k .entry)))) ⌝ }
     ensures kept { λ _. ⌜ IsRow (now (k .exit)) ⌝ }
 {
-    row::clear_flags(k);
+    control_row::clear_flags(k);
     if machine::is_absent(s, sb) {
         return End::Faulted;
     }
     let x = machine::word_at(s, w);
     let b = machine::byte_at(s, sb);
-    let y = extend(b);
+    let y = registers::signed_byte(b);
     let r = integer::subtract(x, y);
     machine::put_word(s, w, r.word);
     test_integer(k, r);
@@ -77,10 +77,10 @@ pub fn bs(s: &mut [u32], k: &mut Row, w: u32, sb: u32) -> End
 // Add Integer Word.
 pub fn wa(s: &mut [u32], k: &mut Row, w: u32, sb: u32) -> End
     requires { ⌜ IsRow (now k) ⌝ }
-    ensures value { λ r. ⌜ endingOf r (now (s .exit)) (controlAt (now (k .exit))) ≡ ending (executing WA w sb (now (s .entry)) (controlAt (now (k .entry)))) ⌝ }
+    ensures value { λ r. ⌜ endingOf r (now (s .exit)) (controlAt (now (k .exit))) ≡ ending (execute WA w sb (now (s .entry)) (controlAt (now (k .entry)))) ⌝ }
     ensures kept { λ _. ⌜ IsRow (now (k .exit)) ⌝ }
 {
-    row::clear_flags(k);
+    control_row::clear_flags(k);
     if machine::is_absent(s, sb) {
         return End::Faulted;
     }
@@ -95,10 +95,10 @@ pub fn wa(s: &mut [u32], k: &mut Row, w: u32, sb: u32) -> End
 // Subtract Integer Word.
 pub fn ws(s: &mut [u32], k: &mut Row, w: u32, sb: u32) -> End
     requires { ⌜ IsRow (now k) ⌝ }
-    ensures value { λ r. ⌜ endingOf r (now (s .exit)) (controlAt (now (k .exit))) ≡ ending (executing WS w sb (now (s .entry)) (controlAt (now (k .entry)))) ⌝ }
+    ensures value { λ r. ⌜ endingOf r (now (s .exit)) (controlAt (now (k .exit))) ≡ ending (execute WS w sb (now (s .entry)) (controlAt (now (k .entry)))) ⌝ }
     ensures kept { λ _. ⌜ IsRow (now (k .exit)) ⌝ }
 {
-    row::clear_flags(k);
+    control_row::clear_flags(k);
     if machine::is_absent(s, sb) {
         return End::Faulted;
     }
@@ -113,7 +113,7 @@ pub fn ws(s: &mut [u32], k: &mut Row, w: u32, sb: u32) -> End
 // Multiply Integer Word: EX is unchanged.
 pub fn wm(s: &mut [u32], k: &mut Row, w: u32, sb: u32) -> End
     requires { ⌜ IsRow (now k) ⌝ }
-    ensures value { λ r. ⌜ endingOf r (now (s .exit)) (controlAt (now (k .exit))) ≡ ending (executing WM w sb (now (s .entry)) (controlAt (now (k .entry)))) ⌝ }
+    ensures value { λ r. ⌜ endingOf r (now (s .exit)) (controlAt (now (k .exit))) ≡ ending (execute WM w sb (now (s .entry)) (controlAt (now (k .entry)))) ⌝ }
     ensures kept { λ _. ⌜ IsRow (now (k .exit)) ⌝ }
 {
     if machine::is_absent(s, sb) {
@@ -129,10 +129,10 @@ pub fn wm(s: &mut [u32], k: &mut Row, w: u32, sb: u32) -> End
 // Divide Integer Word.
 pub fn wd(s: &mut [u32], k: &mut Row, w: u32, sb: u32) -> End
     requires { ⌜ IsRow (now k) ⌝ }
-    ensures value { λ r. ⌜ endingOf r (now (s .exit)) (controlAt (now (k .exit))) ≡ ending (executing WD w sb (now (s .entry)) (controlAt (now (k .entry)))) ⌝ }
+    ensures value { λ r. ⌜ endingOf r (now (s .exit)) (controlAt (now (k .exit))) ≡ ending (execute WD w sb (now (s .entry)) (controlAt (now (k .entry)))) ⌝ }
     ensures kept { λ _. ⌜ IsRow (now (k .exit)) ⌝ }
 {
-    row::clear_flags(k);
+    control_row::clear_flags(k);
     if machine::is_absent(s, sb) {
         return End::Faulted;
     }
@@ -141,7 +141,7 @@ pub fn wd(s: &mut [u32], k: &mut Row, w: u32, sb: u32) -> End
     let x = machine::word_at(s, w);
     let y = machine::word_at(s, sb / 2);
     let r = divide::divide(u, x, y);
-    row::note_overflow(k, r.over, INTEGER_OVERFLOW);
+    control_row::note_overflow(k, r.over, INTEGER_OVERFLOW);
     machine::put_word(s, p, r.pre);
     machine::put_word(s, w, r.word);
     End::Done
@@ -150,10 +150,10 @@ pub fn wd(s: &mut [u32], k: &mut Row, w: u32, sb: u32) -> End
 // Add Integer Double Word: the first word is read after W was written.
 pub fn aa(s: &mut [u32], k: &mut Row, w: u32, sb: u32) -> End
     requires { ⌜ IsRow (now k) ⌝ }
-    ensures value { λ r. ⌜ endingOf r (now (s .exit)) (controlAt (now (k .exit))) ≡ ending (executing AA w sb (now (s .entry)) (controlAt (now (k .entry)))) ⌝ }
+    ensures value { λ r. ⌜ endingOf r (now (s .exit)) (controlAt (now (k .exit))) ≡ ending (execute AA w sb (now (s .entry)) (controlAt (now (k .entry)))) ⌝ }
     ensures kept { λ _. ⌜ IsRow (now (k .exit)) ⌝ }
 {
-    row::clear_flags(k);
+    control_row::clear_flags(k);
     if machine::is_absent(s, sb) {
         return End::Faulted;
     }
@@ -174,10 +174,10 @@ pub fn aa(s: &mut [u32], k: &mut Row, w: u32, sb: u32) -> End
 // Subtract Integer Double Word: the first word is read after W was written.
 pub fn ss(s: &mut [u32], k: &mut Row, w: u32, sb: u32) -> End
     requires { ⌜ IsRow (now k) ⌝ }
-    ensures value { λ r. ⌜ endingOf r (now (s .exit)) (controlAt (now (k .exit))) ≡ ending (executing SS w sb (now (s .entry)) (controlAt (now (k .entry)))) ⌝ }
+    ensures value { λ r. ⌜ endingOf r (now (s .exit)) (controlAt (now (k .exit))) ≡ ending (execute SS w sb (now (s .entry)) (controlAt (now (k .entry)))) ⌝ }
     ensures kept { λ _. ⌜ IsRow (now (k .exit)) ⌝ }
 {
-    row::clear_flags(k);
+    control_row::clear_flags(k);
     if machine::is_absent(s, sb) {
         return End::Faulted;
     }
@@ -198,7 +198,7 @@ pub fn ss(s: &mut [u32], k: &mut Row, w: u32, sb: u32) -> End
 // Logical And.
 pub fn la(s: &mut [u32], k: &mut Row, w: u32, sb: u32) -> End
     requires { ⌜ IsRow (now k) ⌝ }
-    ensures value { λ r. ⌜ endingOf r (now (s .exit)) (controlAt (now (k .exit))) ≡ ending (executing LA w sb (now (s .entry)) (controlAt (now (k .entry)))) ⌝ }
+    ensures value { λ r. ⌜ endingOf r (now (s .exit)) (controlAt (now (k .exit))) ≡ ending (execute LA w sb (now (s .entry)) (controlAt (now (k .entry)))) ⌝ }
     ensures kept { λ _. ⌜ IsRow (now (k .exit)) ⌝ }
 {
     if machine::is_absent(s, sb) {
@@ -214,7 +214,7 @@ pub fn la(s: &mut [u32], k: &mut Row, w: u32, sb: u32) -> End
 // Logical Or.
 pub fn lo(s: &mut [u32], k: &mut Row, w: u32, sb: u32) -> End
     requires { ⌜ IsRow (now k) ⌝ }
-    ensures value { λ r. ⌜ endingOf r (now (s .exit)) (controlAt (now (k .exit))) ≡ ending (executing LO w sb (now (s .entry)) (controlAt (now (k .entry)))) ⌝ }
+    ensures value { λ r. ⌜ endingOf r (now (s .exit)) (controlAt (now (k .exit))) ≡ ending (execute LO w sb (now (s .entry)) (controlAt (now (k .entry)))) ⌝ }
     ensures kept { λ _. ⌜ IsRow (now (k .exit)) ⌝ }
 {
     if machine::is_absent(s, sb) {
@@ -230,7 +230,7 @@ pub fn lo(s: &mut [u32], k: &mut Row, w: u32, sb: u32) -> End
 // Logical Exclusive Or.
 pub fn lx(s: &mut [u32], k: &mut Row, w: u32, sb: u32) -> End
     requires { ⌜ IsRow (now k) ⌝ }
-    ensures value { λ r. ⌜ endingOf r (now (s .exit)) (controlAt (now (k .exit))) ≡ ending (executing LX w sb (now (s .entry)) (controlAt (now (k .entry)))) ⌝ }
+    ensures value { λ r. ⌜ endingOf r (now (s .exit)) (controlAt (now (k .exit))) ≡ ending (execute LX w sb (now (s .entry)) (controlAt (now (k .entry)))) ⌝ }
     ensures kept { λ _. ⌜ IsRow (now (k .exit)) ⌝ }
 {
     if machine::is_absent(s, sb) {
@@ -245,36 +245,36 @@ pub fn lx(s: &mut [u32], k: &mut Row, w: u32, sb: u32) -> End
 
 // Shift Single Arithmetically (AS; `as` is a word of the language).
 pub fn shift_as(s: &mut [u32], k: &mut Row, w: u32, sb: u32) -> End
-    requires { ⌜ (sb < 16777216) × IsRow (now k) ⌝ }
-    ensures value { λ r. ⌜ endingOf r (now (s .exit)) (controlAt (now (k .exit))) ≡ ending (executing AS w sb (now (s .entry)) (controlAt (now (k .entry)))) ⌝ }
+    requires { ⌜ (sb < wordRange) × IsRow (now k) ⌝ }
+    ensures value { λ r. ⌜ endingOf r (now (s .exit)) (controlAt (now (k .exit))) ≡ ending (execute AS w sb (now (s .entry)) (controlAt (now (k .entry)))) ⌝ }
     ensures kept { λ _. ⌜ IsRow (now (k .exit)) ⌝ }
 {
-    row::clear_flags(k);
+    control_row::clear_flags(k);
     let x = machine::word_at(s, w);
     let r = shift::arithmetic24(sb, x);
-    row::note_overflow(k, r.over, INTEGER_OVERFLOW);
+    control_row::note_overflow(k, r.over, INTEGER_OVERFLOW);
     machine::put_long(s, w, r.word);
     End::Done
 }
 
 // Shift Double Arithmetically.
 pub fn ad(s: &mut [u32], k: &mut Row, w: u32, sb: u32) -> End
-    requires { ⌜ (sb < 16777216) × IsRow (now k) ⌝ }
-    ensures value { λ r. ⌜ endingOf r (now (s .exit)) (controlAt (now (k .exit))) ≡ ending (executing AD w sb (now (s .entry)) (controlAt (now (k .entry)))) ⌝ }
+    requires { ⌜ (sb < wordRange) × IsRow (now k) ⌝ }
+    ensures value { λ r. ⌜ endingOf r (now (s .exit)) (controlAt (now (k .exit))) ≡ ending (execute AD w sb (now (s .entry)) (controlAt (now (k .entry)))) ⌝ }
     ensures kept { λ _. ⌜ IsRow (now (k .exit)) ⌝ }
 {
-    row::clear_flags(k);
+    control_row::clear_flags(k);
     let x = machine::pair_at(s, w);
     let r = shift::arithmetic48(sb, x);
-    row::note_overflow(k, r.over, INTEGER_OVERFLOW);
+    control_row::note_overflow(k, r.over, INTEGER_OVERFLOW);
     machine::put_pair(s, w, r.word);
     End::Done
 }
 
 // Shift Single Logically.
 pub fn ls(s: &mut [u32], k: &mut Row, w: u32, sb: u32) -> End
-    requires { ⌜ (sb < 16777216) × IsRow (now k) ⌝ }
-    ensures value { λ r. ⌜ endingOf r (now (s .exit)) (controlAt (now (k .exit))) ≡ ending (executing LS w sb (now (s .entry)) (controlAt (now (k .entry)))) ⌝ }
+    requires { ⌜ (sb < wordRange) × IsRow (now k) ⌝ }
+    ensures value { λ r. ⌜ endingOf r (now (s .exit)) (controlAt (now (k .exit))) ≡ ending (execute LS w sb (now (s .entry)) (controlAt (now (k .entry)))) ⌝ }
     ensures kept { λ _. ⌜ IsRow (now (k .exit)) ⌝ }
 {
     let x = machine::word_at(s, w);
@@ -285,8 +285,8 @@ pub fn ls(s: &mut [u32], k: &mut Row, w: u32, sb: u32) -> End
 
 // Shift Double Logically.
 pub fn ld(s: &mut [u32], k: &mut Row, w: u32, sb: u32) -> End
-    requires { ⌜ (sb < 16777216) × IsRow (now k) ⌝ }
-    ensures value { λ r. ⌜ endingOf r (now (s .exit)) (controlAt (now (k .exit))) ≡ ending (executing LD w sb (now (s .entry)) (controlAt (now (k .entry)))) ⌝ }
+    requires { ⌜ (sb < wordRange) × IsRow (now k) ⌝ }
+    ensures value { λ r. ⌜ endingOf r (now (s .exit)) (controlAt (now (k .exit))) ≡ ending (execute LD w sb (now (s .entry)) (controlAt (now (k .entry)))) ⌝ }
     ensures kept { λ _. ⌜ IsRow (now (k .exit)) ⌝ }
 {
     let x = machine::pair_at(s, w);
@@ -298,7 +298,7 @@ pub fn ld(s: &mut [u32], k: &mut Row, w: u32, sb: u32) -> End
 // Normalize Single: the byte is stored after the shift.
 pub fn ns(s: &mut [u32], k: &mut Row, w: u32, sb: u32) -> End
     requires { ⌜ IsRow (now k) ⌝ }
-    ensures value { λ r. ⌜ endingOf r (now (s .exit)) (controlAt (now (k .exit))) ≡ ending (executing NS w sb (now (s .entry)) (controlAt (now (k .entry)))) ⌝ }
+    ensures value { λ r. ⌜ endingOf r (now (s .exit)) (controlAt (now (k .exit))) ≡ ending (execute NS w sb (now (s .entry)) (controlAt (now (k .entry)))) ⌝ }
     ensures kept { λ _. ⌜ IsRow (now (k .exit)) ⌝ }
 {
     let x = machine::word_at(s, w);
@@ -307,7 +307,7 @@ pub fn ns(s: &mut [u32], k: &mut Row, w: u32, sb: u32) -> End
     if machine::is_absent(s, sb) {
         return End::Faulted;
     }
-    if row::is_violation(s, k, sb / 2) {
+    if control_row::is_violation(s, k, sb / 2) {
         return End::Faulted;
     }
     machine::put_byte(s, sb, r.shifts);
@@ -317,7 +317,7 @@ pub fn ns(s: &mut [u32], k: &mut Row, w: u32, sb: u32) -> End
 // Normalize Double: the byte is stored after the shift.
 pub fn nd(s: &mut [u32], k: &mut Row, w: u32, sb: u32) -> End
     requires { ⌜ IsRow (now k) ⌝ }
-    ensures value { λ r. ⌜ endingOf r (now (s .exit)) (controlAt (now (k .exit))) ≡ ending (executing ND w sb (now (s .entry)) (controlAt (now (k .entry)))) ⌝ }
+    ensures value { λ r. ⌜ endingOf r (now (s .exit)) (controlAt (now (k .exit))) ≡ ending (execute ND w sb (now (s .entry)) (controlAt (now (k .entry)))) ⌝ }
     ensures kept { λ _. ⌜ IsRow (now (k .exit)) ⌝ }
 {
     let x = machine::pair_at(s, w);
@@ -326,7 +326,7 @@ pub fn nd(s: &mut [u32], k: &mut Row, w: u32, sb: u32) -> End
     if machine::is_absent(s, sb) {
         return End::Faulted;
     }
-    if row::is_violation(s, k, sb / 2) {
+    if control_row::is_violation(s, k, sb / 2) {
         return End::Faulted;
     }
     machine::put_byte(s, sb, r.shifts);

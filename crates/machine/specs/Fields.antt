@@ -4,6 +4,7 @@ use Prim.Native.Nat.{ℕ, _+_, _*_, _/_, _%_}
 use mathlib.Core.Bool.{Bool, not, cond}
 use lib.Dec.{eqb}
 use lib.Bits.{bitOr}
+use Rattle.registers.specs.Reg.{wordRange}
 use Rattle.machine.specs.declared.Control.{Control}
 
 -- not monitor mode: task mode
@@ -12,16 +13,16 @@ inTask c = not (c .monitor)
 
 -- IC := v, and so on for the other fields
 unfoldable pub withIC : Control → ℕ → Control
-withIC c v = record { ic = v % 16777216; ir = c .ir; im = c .im; pending = c .pending; pr = c .pr; ex = c .ex; monitor = c .monitor; enabled = c .enabled; reset = c .reset }
+withIC c v = record { ic = v % wordRange; ir = c .ir; im = c .im; pending = c .pending; pr = c .pr; ex = c .ex; monitor = c .monitor; enabled = c .enabled; reset = c .reset }
 
 unfoldable pub withIR : Control → ℕ → Control
-withIR c v = record { ic = c .ic; ir = v % 16777216; im = c .im; pending = c .pending; pr = c .pr; ex = c .ex; monitor = c .monitor; enabled = c .enabled; reset = c .reset }
+withIR c v = record { ic = c .ic; ir = v % wordRange; im = c .im; pending = c .pending; pr = c .pr; ex = c .ex; monitor = c .monitor; enabled = c .enabled; reset = c .reset }
 
 unfoldable pub withIM : Control → ℕ → Control
-withIM c v = record { ic = c .ic; ir = c .ir; im = v % 16777216; pending = c .pending; pr = c .pr; ex = c .ex; monitor = c .monitor; enabled = c .enabled; reset = c .reset }
+withIM c v = record { ic = c .ic; ir = c .ir; im = v % wordRange; pending = c .pending; pr = c .pr; ex = c .ex; monitor = c .monitor; enabled = c .enabled; reset = c .reset }
 
 unfoldable pub withPending : Control → ℕ → Control
-withPending c v = record { ic = c .ic; ir = c .ir; im = c .im; pending = v % 16777216; pr = c .pr; ex = c .ex; monitor = c .monitor; enabled = c .enabled; reset = c .reset }
+withPending c v = record { ic = c .ic; ir = c .ir; im = c .im; pending = v % wordRange; pr = c .pr; ex = c .ex; monitor = c .monitor; enabled = c .enabled; reset = c .reset }
 
 -- PR(0) := 1
 unfoldable pub withPR : Control → ℕ → Control

@@ -6,11 +6,12 @@ use mathlib.Core.Bool.{Bool, false, cond}
 use mathlib.Core.List.{List}
 use lib.Dec.{eqb, leb}
 use lib.ListN.{length, getD, set}
+use Rattle.registers.specs.Reg.{wordRange}
 use Rattle.machine.specs.declared.Control.{Control}
 
 -- the word of cell i: word(SB) is `word s (SB / 2)`
 unfoldable pub word : List ℕ → ℕ → ℕ
-word s i = getD s i 0 % 16777216
+word s i = getD s i 0 % wordRange
 
 -- Wpre: if FR(6:7) = 0 then 3 else FR(6:7) - 1
 abbrev pub previous : ℕ → ℕ
@@ -18,19 +19,19 @@ previous w = (w + 3) % 4
 
 -- Wpre concat W
 unfoldable pub pair : List ℕ → ℕ → ℕ
-pair s w = word s (previous w) * 16777216 + word s w
+pair s w = word s (previous w) * wordRange + word s w
 
 -- protection key(SB)
 unfoldable pub key : List ℕ → ℕ → ℕ
-key s i = getD s i 0 / 16777216 % 8
+key s i = getD s i 0 / wordRange % 8
 
 -- word(SB) := v; the key stays
 unfoldable pub putWord : List ℕ → ℕ → ℕ → List ℕ
-putWord s i v = set s i (getD s i 0 / 16777216 * 16777216 + v % 16777216)
+putWord s i v = set s i (getD s i 0 / wordRange * wordRange + v % wordRange)
 
 -- protection key(SB) := k; the word stays
 unfoldable pub putKey : List ℕ → ℕ → ℕ → List ℕ
-putKey s i k = set s i (k % 8 * 16777216 + getD s i 0 % 16777216)
+putKey s i k = set s i (k % 8 * wordRange + getD s i 0 % wordRange)
 
 -- byte(SB): if SB(23) = 0 then word(SB)(0:11) else word(SB)(12:23)
 unfoldable pub byte : List ℕ → ℕ → ℕ
@@ -64,6 +65,10 @@ forbidden s c i = forbids (c .pr) (key s i)
 unfoldable pub violation : List ℕ → Control → ℕ → Bool
 violation s c i = cond (c .monitor) false (forbids (c .pr) (key s i))
 
+-- SB(23) := 0
+abbrev pub evenAddress : ℕ → ℕ
+evenAddress a = a / 2 * 2
+
 -- if SB = 0 then 6 else SB - 2, of an address without its right-most bit (docs/DECISIONS.md C2)
 unfoldable pub firstWord : ℕ → ℕ
-firstWord a = cond (eqb (a / 2) 0) 6 (a / 2 * 2 - 2)
+firstWord a = cond (eqb (a / 2) 0) 6 (evenAddress a - 2)

@@ -3,19 +3,14 @@
 ghost use mathlib.Core.Path.{_≡_};
 ghost use Prim.Native.Nat.{_+_, _*_, _/_, _%_, _<_};
 ghost use lib.ListN.{getD, set};
+ghost use Rattle.registers.specs.Reg.{wordRange};
 ghost use Rattle.machine.specs.Store.{word, pair, key, putWord, putKey, byte, withByte, putByte, putLink, absent, forbids, firstWord, previous};
 ghost use Rattle.machine.specs.Fields.{withIR, raised};
 ghost use Rattle.machine.specs.Records.{freshRecord, resetRecord};
 ghost use Rattle.machine.specs.Answers.{refusalNumber, kindNumber};
 ghost use Rattle.machine.specs.Format.{instructionFields};
-
-// 2^24, the number of a word's values; the same for a double-length register.
-pub const WORD: u32 = 16777216;
-
-const LONG_WORD: u64 = 16777216;
-
-// The weight of bit 0 of a word.
-pub const BIT_0: u32 = 8388608;
+use registers::LONG_WORD_RANGE;
+use registers::WORD_RANGE;
 
 // The weights of IR(1), integer overflow, and IR(2), floating-point overflow.
 pub const INTEGER_OVERFLOW: u32 = 4194304;
@@ -238,27 +233,27 @@ pub fn put_cell(s: &mut [u32], i: u32, v: u32)
 
 pub fn word_at(s: &[u32], i: u32) -> u32
     ensures value { λ r. ⌜ r ≡ word (now (s .entry)) i ⌝ }
-    ensures bound { λ r. ⌜ r < 16777216 ⌝ }
+    ensures bound { λ r. ⌜ r < wordRange ⌝ }
 {
-    cell_at(s, i) % WORD
+    cell_at(s, i) % WORD_RANGE
 }
 
 pub fn key_at(s: &[u32], i: u32) -> u32
     ensures { λ r. ⌜ r ≡ key (now (s .entry)) i ⌝ }
 {
-    cell_at(s, i) / WORD % 8
+    cell_at(s, i) / WORD_RANGE % 8
 }
 
 fn with_word(x: u32, v: u32) -> u32
-    ensures { λ r. ⌜ r ≡ x / 16777216 * 16777216 + v % 16777216 ⌝ }
+    ensures { λ r. ⌜ r ≡ x / wordRange * wordRange + v % wordRange ⌝ }
 {
-    x / WORD * WORD + v % WORD
+    x / WORD_RANGE * WORD_RANGE + v % WORD_RANGE
 }
 
 fn with_key(x: u32, k: u32) -> u32
-    ensures { λ r. ⌜ r ≡ k % 8 * 16777216 + x % 16777216 ⌝ }
+    ensures { λ r. ⌜ r ≡ k % 8 * wordRange + x % wordRange ⌝ }
 {
-    k % 8 * WORD + x % WORD
+    k % 8 * WORD_RANGE + x % WORD_RANGE
 }
 
 pub fn put_word(s: &mut [u32], i: u32, v: u32)
@@ -270,9 +265,9 @@ pub fn put_word(s: &mut [u32], i: u32, v: u32)
 }
 
 fn with_long(x: u32, v: u64) -> u32
-    ensures { λ r. ⌜ r ≡ x / 16777216 * 16777216 + v % 16777216 ⌝ }
+    ensures { λ r. ⌜ r ≡ x / wordRange * wordRange + v % wordRange ⌝ }
 {
-    x / WORD * WORD + (v % LONG_WORD) as u32
+    x / WORD_RANGE * WORD_RANGE + (v % LONG_WORD_RANGE) as u32
 }
 
 // The last 24 bits of a double-length register go in.
@@ -319,11 +314,11 @@ pub fn put_byte(s: &mut [u32], a: u32, v: u32)
 }
 
 fn joined(pre: u32, w: u32) -> u64
-    requires { ⌜ (pre < 16777216) × (w < 16777216) ⌝ }
-    ensures value { λ r. ⌜ r ≡ pre * 16777216 + w ⌝ }
+    requires { ⌜ (pre < wordRange) × (w < wordRange) ⌝ }
+    ensures value { λ r. ⌜ r ≡ pre * wordRange + w ⌝ }
     ensures bound { λ r. ⌜ r < 281474976710656 ⌝ }
 {
-    (pre as u64) * LONG_WORD + w as u64
+    (pre as u64) * LONG_WORD_RANGE + w as u64
 }
 
 // Wpre concat W.
@@ -339,10 +334,10 @@ pub fn pair_at(s: &[u32], w: u32) -> u64
 
 // Wpre concat W := v.
 pub fn put_pair(s: &mut [u32], w: u32, v: u64)
-    ensures { λ _. ⌜ now (s .exit) ≡ putWord (putWord (now (s .entry)) (previous w) (v / 16777216)) w v ⌝ }
+    ensures { λ _. ⌜ now (s .exit) ≡ putWord (putWord (now (s .entry)) (previous w) (v / wordRange)) w v ⌝ }
 {
     let p = previous_register(w);
-    put_long(s, p, v / LONG_WORD);
+    put_long(s, p, v / LONG_WORD_RANGE);
     put_long(s, w, v);
 }
 
@@ -389,7 +384,7 @@ fn with_ir(c: Control, v: u32) -> Control
 {
     Control {
         ic: c.ic,
-        ir: v % WORD,
+        ir: v % WORD_RANGE,
         im: c.im,
         pending: c.pending,
         pr: c.pr,

@@ -5,6 +5,9 @@ ghost use mathlib.Core.Bool.{cond};
 ghost use lib.Dec.{eqb};
 ghost use Prim.Native.Nat.{_+_, _/_, _%_, _^_, _≤_, _<_};
 ghost use Rattle.multiply.specs.Wm.{wm};
+use registers::BIT_0;
+use registers::LONG_BIT_0;
+use registers::WORD_RANGE;
 
 // What a step adds to q / 2: y where q is odd, else the same of SB = 0. y is half of SB + 2^23 at AR's place, SB being signed.
 fn addend(y: u64, q: u64) -> u64
@@ -30,7 +33,7 @@ pub fn multiply(w: u32, s: u32) -> u64
     ensures value { λ r. ⌜ r ≡ wm w s ⌝ }
     ensures bound { λ r. ⌜ r < 2 ^ 48 ⌝ }
 {
-    let y = ((s + 8388608) % 16777216) as u64 * 8388608;
+    let y = ((s + BIT_0) % WORD_RANGE) as u64 * LONG_BIT_0;
     let mut q = w as u64 + 140737488355328;
     for i in 0u32..11 {
         q = two_steps(y, y, q);

@@ -7,7 +7,7 @@ use native.Mathlib.Nat.{div-add-mod, mod-lt, mod-eq-of-lt, mod-eq-sub-mod, mul-l
 use native.Mathlib.Decide.{decLe, decLt}
 use native.Mathlib.Numerals.{add-one}
 use lib.Pow.{pow-lt, pow-pos, shr-shr}
-use Rattle.registers.specs.Reg.{bit, sign, shl}
+use Rattle.registers.specs.Reg.{bitFromRight, sign, shl}
 
 -- 2 ^ i ≤ 2 ^ k only where i ≤ k
 pub exponent-le : (i k : ℕ) → 2 ^ i ≤ 2 ^ k → i ≤ k
@@ -43,7 +43,7 @@ near-top q p x z l h a =
     (omega arith, omega arith, omega arith)
 
 -- a register whose two left-most bits are equal is at a distance of at most 2 ^ (n - 2), and the shift doubles the distance
-pub grow : (n i x : ℕ) → 2 ≤ n → Apart n i x → sign n x ≡ bit (n - 2) x → (i ≤ n - 2) × Apart n (i + 1) (shl n x)
+pub grow : (n i x : ℕ) → 2 ≤ n → Apart n i x → sign n x ≡ bitFromRight (n - 2) x → (i ≤ n - 2) × Apart n (i + 1) (shl n x)
 grow n i x g a e =
     let w : 2 ^ n ≡ 4 * 2 ^ (n - 2) = (let k : n ≡ suc (suc (n - 2)) = omega arith in ap (λ (m : ℕ). 2 ^ m) k ∙ omega arith) in
     let d : x / 2 ^ (n - 1) ≡ x / 2 ^ (n - 2) / 2 = (let k : n - 1 ≡ n - 2 + 1 = omega arith in ap (λ (m : ℕ). x / 2 ^ m) k ∙ sym (shr-shr x (n - 2) 1)) in

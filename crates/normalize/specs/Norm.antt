@@ -3,12 +3,12 @@ use Prim.Native.Nat.{ℕ, _+_, _-_, _%_, _^_}
 use mathlib.Core.Path.{_≡_, refl}
 use mathlib.Core.Bool.{Bool, not, cond}
 use lib.Dec.{eqb}
-use Rattle.registers.specs.Reg.{bit, sign, shl, until}
+use Rattle.registers.specs.Reg.{bitFromRight, sign, shl, until}
 use Rattle.normalize.specs.declared.Normal.{Normal}
 
 -- W(0) <> W(1)
 abbrev pub normal : ℕ → ℕ → Bool
-normal n x = not (eqb (sign n x) (bit (n - 2) x))
+normal n x = not (eqb (sign n x) (bitFromRight (n - 2) x))
 
 abbrev pub normalAt : ℕ → Normal → Bool
 normalAt n x = normal n (x .word)

@@ -2,6 +2,7 @@
 ghost use mathlib.Core.Path.{_≡_};
 ghost use Prim.Native.Nat.{_^_, _<_};
 ghost use Rattle.normalize.specs.Norm.{normalize, normalized};
+use registers::LONG_WORD_RANGE;
 
 // The register, and the count of shifts or, of NS and ND, the byte to store.
 pub struct Normal {
@@ -37,9 +38,9 @@ pub fn normalize_single(w: u32) -> Normal
             shifts: 2048,
         };
     }
-    let r = normalize48(w as u64 * 16777216);
+    let r = normalize48(w as u64 * LONG_WORD_RANGE);
     Normal {
-        word: r.word / 16777216,
+        word: r.word / LONG_WORD_RANGE,
         shifts: (4096 - r.shifts) % 4096,
     }
 }

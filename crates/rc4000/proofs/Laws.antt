@@ -19,25 +19,25 @@ use Rattle.machine.specs.declared.Verdict.the-variants.{Accepted, Rejected}
 use Rattle.machine.specs.Fields.{withIR, raised}
 use Rattle.machine.specs.Records.{resetRecord}
 use Rattle.acceptance.specs.Accept.{stateFits, judgeMachine, judgeCall, devicesFit, judgeRun, judgeAutoload}
-use Rattle.definition.specs.Machine.{computer, Channel, Machine, machine, Effect, ok, fault, reached}
-use Rattle.definition.specs.Channel.{lent, registersOf, fourLeft}
-use Rattle.definition.specs.MicroOps.{deviceSteps}
-use Rattle.definition.specs.Meaning.{autoloading}
-use Rattle.definition.proofs.Validity.{passed, accepted-valid, valid-accepted, Live, valid-control}
-use Rattle.definition.proofs.DeviceLaws.{fits-channel, live-devices}
-use Rattle.row.specs.declared.End.{End}
-use Rattle.row.specs.declared.End.the-variants.{Done, Reset, Faulted}
-use Rattle.row.specs.Answers.{Ending, completed, faulted, ending, endingOf, endingWith}
-use Rattle.running.specs.Cycle.{cycle}
-use Rattle.running.specs.Run.{inReset, judgeOf, devicesFitOf, joined, running, runMachine}
-use Rattle.running.specs.Keys.{autoloadRecord, autoloadKey, pressingAutoload}
-use Rattle.running.specs.Lent.{machineLent, Returned, returned, handedBack, runLent, KeyReturned, keyReturned, keyHandedBack, autoloadLent}
-use Rattle.running.specs.Bridge.{ranOf}
-use Rattle.running.specs.Promises.{KeepsProtected, TouchesNoDevice, Counts}
+use Rattle.definition_instructions.specs.Machine.{computer, Channel, Machine, machine, Effect, ok, fault, reached}
+use Rattle.definition_instructions.specs.Channel.{lent, registersOf, fourLeft}
+use Rattle.definition_instructions.specs.MicroOps.{deviceSteps}
+use Rattle.definition_instructions.specs.Meaning.{autoloading}
+use Rattle.definition_instructions.proofs.Validity.{passed, accepted-valid, valid-accepted, Live, valid-control}
+use Rattle.definition_instructions.proofs.DeviceLaws.{fits-channel, live-devices}
+use Rattle.control_row.specs.declared.End.{End}
+use Rattle.control_row.specs.declared.End.the-variants.{Done, Reset, Faulted}
+use Rattle.control_row.specs.Answers.{Ending, completed, faulted, ending, endingOf, endingWith}
+use Rattle.definition_runs.specs.Cycle.{cycle}
+use Rattle.definition_runs.specs.Run.{inReset, judgeOf, devicesFitOf, joined, running, runMachine}
+use Rattle.definition_runs.specs.Keys.{autoloadRecord, autoloadKey, pressingAutoload}
+use Rattle.definition_runs.specs.Lent.{machineLent, Returned, returned, handedBack, runLent, KeyReturned, keyReturned, keyHandedBack, autoloadLent}
+use Rattle.definition_runs.specs.Answers.{runResultOf}
+use Rattle.definition_runs.specs.Promises.{KeepsProtected, TouchesNoDevice, Counts}
 use Rattle.rc4000.specs.Key.{autoloaded}
-use Rattle.running.proofs.CycleValid.{valid-joined}
-use Rattle.running.proofs.CallLaws.{call-run}
-use Rattle.running.proofs.Promises.{accepted-both, isolation, task-call-touches-no-device, counts-of-run, refused-run}
+use Rattle.definition_runs.proofs.CycleValid.{valid-joined}
+use Rattle.definition_runs.proofs.CallLaws.{call-run}
+use Rattle.definition_runs.proofs.Promises.{accepted-both, isolation, task-call-touches-no-device, counts-of-run, refused-run}
 
 call-passed : (v : Verdict) (l b : ℕ) → judgeCall v l b ≡ Accepted → (v ≡ Accepted) × (b < 65536)
 call-passed Accepted l b e =
@@ -89,7 +89,7 @@ run-rejected s c l b d cs t q e = rw (refused-run l b (machineLent s c d cs t) q
 -- what the definition promises, of any call that meets it
 abbrev Promised : List ℕ → Control → Devices → List ℕ → ℕ → Returned → Type 0
 Promised s c d t b x =
-    KeepsProtected (computer s c) (x .run .answer) (computer (x .cells) (x .run .control)) × (TouchesNoDevice c d t x × Counts b (ranOf (x .run) (x .cells)))
+    KeepsProtected (computer s c) (x .run .answer) (computer (x .cells) (x .run .control)) × (TouchesNoDevice c d t x × Counts b (runResultOf (x .run) (x .cells)))
 
 promised : (s : List ℕ) (c : Control) (l b : ℕ) (d : Devices) (cs t : List ℕ) → Promised s c d t b (runLent l b s c d cs t)
 unfolding runLent handedBack

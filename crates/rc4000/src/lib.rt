@@ -3,14 +3,15 @@ ghost use mathlib.Core.Path.{_≡_};
 ghost use denote.Ref.{ptr};
 ghost use mathlib.Core.Bool.{true};
 ghost use Prim.Native.Nat.{_<_};
+ghost use Rattle.registers.specs.Reg.{wordRange};
 ghost use Rattle.machine.specs.declared.Verdict.the-variants.{Accepted};
 ghost use Rattle.acceptance.specs.Accept.{judgeMachine};
-ghost use Rattle.definition.specs.Machine.{computer};
-ghost use Rattle.definition.specs.Channel.{fourLeft};
-ghost use Rattle.running.specs.Bridge.{ranOf, pressedOf};
-ghost use Rattle.running.specs.Lent.{machineLent, returned, runLent, keyReturned, keyHandedBack, autoloadLent};
-ghost use Rattle.running.specs.Keys.{resetKey, startRecord, startKey, pressingReset, pressingStart, autoloadRecord, autoloadKey};
-ghost use Rattle.running.specs.Promises.{KeepsProtected, TouchesNoDevice, Counts};
+ghost use Rattle.definition_instructions.specs.Machine.{computer};
+ghost use Rattle.definition_instructions.specs.Channel.{fourLeft};
+ghost use Rattle.definition_runs.specs.Answers.{runResultOf, pressedOf};
+ghost use Rattle.definition_runs.specs.Lent.{machineLent, returned, runLent, keyReturned, keyHandedBack, autoloadLent};
+ghost use Rattle.definition_runs.specs.Keys.{resetKey, startRecord, startKey, pressingReset, pressingStart, autoloadRecord, autoloadKey};
+ghost use Rattle.definition_runs.specs.Promises.{KeepsProtected, TouchesNoDevice, Counts};
 ghost use Rattle.rc4000.specs.Key.{autoloaded};
 ghost use Rattle.tape.specs.Load.{loading};
 ghost use Rattle.tape.specs.Remark.{remarkSpan, remarkText, placeFrom};
@@ -35,15 +36,15 @@ pub fn run(
     ensures exact { λ r. ⌜ returned r (now (store .exit)) (now (typing .exit)) ≡ runLent lines budget (now (store .entry)) control devices (now (characters .entry)) (now (typing .entry)) ⌝ }
     ensures isolated { λ r. ⌜ KeepsProtected (computer (now (store .entry)) control) (r .answer) (computer (now (store .exit)) (r .control)) ⌝ }
     ensures untouched { λ r. ⌜ TouchesNoDevice control devices (now (typing .entry)) (returned r (now (store .exit)) (now (typing .exit))) ⌝ }
-    ensures counts { λ r. ⌜ Counts budget (ranOf r (now (store .exit))) ⌝ }
+    ensures counts { λ r. ⌜ Counts budget (runResultOf r (now (store .exit))) ⌝ }
 {
     let v = acceptance::judge_run(store, control, lines, budget, devices, characters);
     match v {
         Verdict::Accepted => {
             if lines == 0 {
-                runner::run(store, control, budget, devices, characters, typing)
+                run_loop::run(store, control, budget, devices, characters, typing)
             } else {
-                runner::run_raised(store, control, lines, budget, devices, characters, typing)
+                run_loop::run_raised(store, control, lines, budget, devices, characters, typing)
             }
         }
         Verdict::Rejected(q) => Run {
@@ -160,16 +161,16 @@ fn autoload(
     characters: &[u8],
     typing: &[u8],
 ) -> Autoloaded
-    requires { ⌜ (judgeMachine (now store) c ≡ Accepted) × (devices .reader < 16777216) × (devices .typewriter < 16777216) × (fourLeft (now characters) ≡ true) ⌝ }
+    requires { ⌜ (judgeMachine (now store) c ≡ Accepted) × (devices .reader < wordRange) × (devices .typewriter < wordRange) × (fourLeft (now characters) ≡ true) ⌝ }
     ensures { λ r. ⌜ keyReturned r (now (store .exit)) ≡ keyHandedBack (now (characters .entry)) (autoloaded (machineLent (now (store .entry)) c devices (now (characters .entry)) (now (typing .entry)))) ⌝ }
 {
     let d = autoload_record(c);
-    let mut k = row::row_of(d);
-    let mut h = channel::channel_of(devices, characters, typing);
+    let mut k = control_row::row_of(d);
+    let mut h = channel_row::channel_of(devices, characters, typing);
     let e = device_instructions::autoload(store, &mut k, &mut h, characters, typing, 0);
-    let a = row::control_of(&k);
-    let v = channel::devices_of(&h, characters, typing);
-    let n = channel::taken(&h, characters, typing);
+    let a = control_row::control_of(&k);
+    let v = channel_row::devices_of(&h, characters, typing);
+    let n = channel_row::taken(&h, characters, typing);
     Autoloaded {
         control: a,
         verdict: Verdict::Accepted,
@@ -185,7 +186,7 @@ fn autoload_key(
     characters: &[u8],
     typing: &[u8],
 ) -> Autoloaded
-    requires { ⌜ (judgeMachine (now store) c ≡ Accepted) × (devices .reader < 16777216) × (devices .typewriter < 16777216) ⌝ }
+    requires { ⌜ (judgeMachine (now store) c ≡ Accepted) × (devices .reader < wordRange) × (devices .typewriter < wordRange) ⌝ }
     ensures { λ r. ⌜ keyReturned r (now (store .exit)) ≡ keyHandedBack (now (characters .entry)) (record { machine = autoloadKey (machineLent (now (store .entry)) c devices (now (characters .entry)) (now (typing .entry))); verdict = Accepted }) ⌝ }
 {
     if c.reset {

@@ -2,9 +2,13 @@
 use Prim.Native.Nat.{ℕ, zero, suc, _+_, _-_, _*_, _/_, _%_, _^_}
 use mathlib.Core.Bool.{Bool, true, false}
 
--- bit k of x, counted from the right, 0 the last
-abbrev pub bit : ℕ → ℕ → ℕ
-bit k x = x / 2 ^ k % 2
+-- 2 ** 24: one more than the largest word, and the weight of a cell's key
+abbrev pub wordRange : ℕ
+wordRange = 16777216
+
+-- bit k of x, counted from the right, 0 the last: R(p) of n bits is `bitFromRight (n - 1 - p) R`
+abbrev pub bitFromRight : ℕ → ℕ → ℕ
+bitFromRight k x = x / 2 ^ k % 2
 
 -- the left-most bit of a register of n bits
 abbrev pub sign : ℕ → ℕ → ℕ
@@ -13,6 +17,10 @@ sign n x = x / 2 ^ (n - 1)
 -- R := signed C, from n bits to m: the sign's bit goes into the bits n to m - 1
 abbrev pub signed : ℕ → ℕ → ℕ → ℕ
 signed n m x = x + sign n x * (2 ^ m - 2 ^ n)
+
+-- signed byte
+unfoldable pub signedByte : ℕ → ℕ
+signedByte b = signed 12 24 b
 
 -- R := not R
 abbrev pub complement : ℕ → ℕ → ℕ

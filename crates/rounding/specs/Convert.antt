@@ -7,7 +7,7 @@ use Rattle.registers.specs.Reg.{signed, until}
 use Rattle.rounding.specs.declared.Unpacked.{Unpacked}
 use Rattle.rounding.specs.declared.Pair.{Pair}
 use Rattle.rounding.specs.Round.{normalizeRound, normalizeOnce, leftShifts, afLeft, scOver}
-use Rattle.rounding.specs.Store.{stored}
+use Rattle.rounding.specs.Store.{storedFloating}
 
 -- SC + SB(11:23)
 abbrev pub scaled : ℕ → ℕ → ℕ
@@ -15,7 +15,7 @@ scaled sb sc = (sc + sb % 2 ^ 13) % 2 ^ 13
 
 -- SC := SC + SB(11:23); if SC(11) <> SC(12) then EX(22) := IR(2) := 1; Wfrac := AF(0:35); Wexp := SC(12:23)
 abbrev pub ciEnd : ℕ → Unpacked → Pair
-ciEnd sb x = stored (x .af) (scaled sb (x .sc)) (max (scOver (x .sc)) (scOver (scaled sb (x .sc))))
+ciEnd sb x = storedFloating (x .af) (scaled sb (x .sc)) (max (scOver (x .sc)) (scOver (scaled sb (x .sc))))
 
 -- AF(-1:23) := signed W; AF(24:37) := 0; if AF = 0 then Wfrac := 0, Wexp := -2048; SC := 23; Normalize and Round Floating; ..
 unfoldable pub ci : ℕ → ℕ → Pair

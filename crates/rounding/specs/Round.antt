@@ -3,13 +3,13 @@ use Prim.Native.Nat.{ℕ, _+_, _-_, _*_, _/_, _%_, _^_}
 use mathlib.Core.Path.{_≡_, refl}
 use mathlib.Core.Bool.{Bool, not, cond}
 use lib.Dec.{eqb}
-use Rattle.registers.specs.Reg.{bit, sign, bitsDiffer, asr, shl, until}
+use Rattle.registers.specs.Reg.{bitFromRight, sign, bitsDiffer, asr, shl, until}
 use Rattle.normalize.specs.declared.Normal.{Normal}
 use Rattle.rounding.specs.declared.Unpacked.{Unpacked}
 
 -- AF(0) <> AF(1)
 abbrev pub afNormal : Normal → Bool
-afNormal x = not (eqb (bit 37 (x .word)) (bit 36 (x .word)))
+afNormal x = not (eqb (bitFromRight 37 (x .word)) (bitFromRight 36 (x .word)))
 
 -- AF := shiftleft AF, counted
 abbrev pub afStep : Normal → Normal
@@ -33,11 +33,11 @@ leftShifts x =
 
 -- Again: if AF(-1) <> AF(0) then right shift else ..
 unfoldable pub normalizeOnce : Unpacked → Unpacked
-normalizeOnce x = cond (not (eqb (sign 39 (x .af)) (bit 37 (x .af)))) (rightShift x) (leftShifts x)
+normalizeOnce x = cond (not (eqb (sign 39 (x .af)) (bitFromRight 37 (x .af)))) (rightShift x) (leftShifts x)
 
 -- AF(36) = 0: no rounding
 abbrev pub noRounding : Unpacked → Bool
-noRounding x = eqb (bit 1 (x .af)) 0
+noRounding x = eqb (bitFromRight 1 (x .af)) 0
 
 -- AF := AF + 4; AF(36:37) := 0
 abbrev pub roundUp : Unpacked → Unpacked
@@ -53,7 +53,7 @@ normalizeRound x = until noRounding roundAgain 1 (normalizeOnce x)
 
 -- SC(11) <> SC(12): EX(22) := IR(2) := 1
 abbrev pub scOver : ℕ → ℕ
-scOver sc = bitsDiffer (sign 13 sc) (bit 11 sc)
+scOver sc = bitsDiffer (sign 13 sc) (bitFromRight 11 sc)
 
 -- rounding up to the next power of two: 1 - 2 ** -36 becomes 1, which is 0.5 with the exponent raised
 round-to-1 : normalizeRound (record { af = 2 ^ 37 - 2; sc = 5 }) ≡ record { af = 2 ^ 36; sc = 6 }

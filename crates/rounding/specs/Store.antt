@@ -3,22 +3,22 @@ use Prim.Native.Nat.{ℕ, _+_, _*_, _/_, _%_, _^_}
 use mathlib.Core.Path.{_≡_, refl}
 use mathlib.Core.Bool.{cond}
 use lib.Dec.{eqb}
-use Rattle.registers.specs.Reg.{bit}
+use Rattle.registers.specs.Reg.{bitFromRight}
 use Rattle.rounding.specs.declared.Unpacked.{Unpacked}
 use Rattle.rounding.specs.declared.Pair.{Pair}
 use Rattle.rounding.specs.Round.{normalizeRound, scOver}
 
 -- if EX(21) = 1 then AF(35) := AF(34) := AF(33)
 unfoldable pub precise : ℕ → ℕ → ℕ
-precise ex af = cond (eqb (bit 2 ex) 1) (af / 2 ^ 4 * 2 ^ 4 + bit 4 af * 12 + af % 2 ^ 2) af
+precise ex af = cond (eqb (bitFromRight 2 ex) 1) (af / 2 ^ 4 * 2 ^ 4 + bitFromRight 4 af * 12 + af % 2 ^ 2) af
 
 -- Wfrac := AF(0:35); Wexp := SC(12:23)
-abbrev pub stored : ℕ → ℕ → ℕ → Pair
-stored af sc over = record { pre = af / 2 ^ 14 % 2 ^ 24; word = af / 2 ^ 2 % 2 ^ 12 * 2 ^ 12 + sc % 2 ^ 12; over = over }
+abbrev pub storedFloating : ℕ → ℕ → ℕ → Pair
+storedFloating af sc over = record { pre = af / 2 ^ 14 % 2 ^ 24; word = af / 2 ^ 2 % 2 ^ 12 * 2 ^ 12 + sc % 2 ^ 12; over = over }
 
 -- Test Precision Mode and Store
 abbrev pub preciseStore : ℕ → ℕ → ℕ → ℕ → Pair
-preciseStore ex af sc over = stored (precise ex af) sc over
+preciseStore ex af sc over = storedFloating (precise ex af) sc over
 
 -- if SC(11) <> SC(12) then EX(22) := IR(2) := 1; Test Precision Mode and Store
 abbrev pub testedStore : ℕ → Unpacked → Pair

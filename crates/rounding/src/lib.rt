@@ -2,8 +2,9 @@
 ghost use mathlib.Core.Path.{_≡_};
 ghost use Prim.Native.Nat.{_/_, _%_, _^_, _<_};
 ghost use Rattle.rounding.specs.Round.{leftShifts, normalizeOnce, normalizeRound};
-ghost use Rattle.rounding.specs.Store.{precise, stored, preciseStore, roundStore};
+ghost use Rattle.rounding.specs.Store.{precise, storedFloating, preciseStore, roundStore};
 ghost use Rattle.rounding.specs.Convert.{ci};
+use registers::LONG_WORD_RANGE;
 
 // A fraction in AF and an exponent in SC.
 pub struct Unpacked {
@@ -78,10 +79,10 @@ fn precise_af(ex: u32, af: u64) -> u64
 }
 
 fn store(af: u64, sc: u32, over: u32) -> Pair
-    ensures { λ r. ⌜ r ≡ stored af sc over ⌝ }
+    ensures { λ r. ⌜ r ≡ storedFloating af sc over ⌝ }
 {
     Pair {
-        pre: af / 16384 % 16777216,
+        pre: af / 16384 % LONG_WORD_RANGE,
         word: af / 4 % 4096 * 4096 + sc as u64 % 4096,
         over: over,
     }

@@ -3,7 +3,7 @@ use Prim.Native.Nat.{ℕ, _-_, _/_, _^_, max}
 use mathlib.Core.Path.{_≡_, refl}
 use mathlib.Core.Bool.{cond}
 use lib.Dec.{ltb}
-use Rattle.registers.specs.Reg.{bit, sign, bitsDiffer, asr, shl, iter}
+use Rattle.registers.specs.Reg.{bitFromRight, sign, bitsDiffer, asr, shl, iter}
 use Rattle.shift.specs.declared.Shifted.{Shifted}
 
 -- if abs(SB) >= 64 then SB := sign(SB) * 48: the number of places, of m = abs(SB). For LS and LD see docs/DECISIONS.md A4.
@@ -15,7 +15,7 @@ unfoldable pub leftStep : ℕ → Shifted → Shifted
 leftStep n x =
     record {
       word = shl n (x .word);
-      over = max (x .over) (bitsDiffer (sign n (x .word)) (bit (n - 2) (x .word)));
+      over = max (x .over) (bitsDiffer (sign n (x .word)) (bitFromRight (n - 2) (x .word)));
     }
 
 -- W := shiftright W

@@ -3,6 +3,9 @@ ghost use mathlib.Core.Path.{_≡_};
 ghost use Prim.Native.Nat.{_^_, _<_};
 ghost use Rattle.registers.specs.Reg.{asr, shl, iter};
 ghost use Rattle.shift.specs.Shift.{places, leftStep, arithmetic, logical, shr};
+use registers::BIT_0;
+use registers::LONG_WORD_RANGE;
+use registers::WORD_RANGE;
 
 // A register, and 1 where a shift to the left changed the sign.
 pub struct Shifted {
@@ -57,11 +60,11 @@ pub fn arithmetic48(sb: u32, x: u64) -> Shifted
     ensures value { λ r. ⌜ r ≡ arithmetic 48 sb x ⌝ }
     ensures bounds { λ r. ⌜ (r .word < 2 ^ 48) × (r .over < 2) ⌝ }
 {
-    if sb < 8388608 {
+    if sb < BIT_0 {
         left48(count(sb), x)
     } else {
         Shifted {
-            word: right48(count(16777216 - sb), x),
+            word: right48(count(WORD_RANGE - sb), x),
             over: 0,
         }
     }
@@ -73,9 +76,9 @@ pub fn arithmetic24(sb: u32, w: u32) -> Shifted
     ensures value { λ r. ⌜ r ≡ arithmetic 24 sb w ⌝ }
     ensures bounds { λ r. ⌜ (r .word < 2 ^ 24) × (r .over < 2) ⌝ }
 {
-    let r = arithmetic48(sb, w as u64 * 16777216);
+    let r = arithmetic48(sb, w as u64 * LONG_WORD_RANGE);
     Shifted {
-        word: r.word / 16777216,
+        word: r.word / LONG_WORD_RANGE,
         over: r.over,
     }
 }
@@ -108,10 +111,10 @@ pub fn logical48(sb: u32, x: u64) -> u64
     ensures value { λ r. ⌜ r ≡ logical 48 sb x ⌝ }
     ensures bound { λ r. ⌜ r < 2 ^ 48 ⌝ }
 {
-    if sb < 8388608 {
+    if sb < BIT_0 {
         logical_left48(count(sb), x)
     } else {
-        logical_right48(count(16777216 - sb), x)
+        logical_right48(count(WORD_RANGE - sb), x)
     }
 }
 
@@ -122,5 +125,5 @@ pub fn logical24(sb: u32, w: u32) -> u32
     ensures bound { λ r. ⌜ r < 2 ^ 24 ⌝ }
 {
     let r = logical48(sb, w as u64);
-    (r % 16777216) as u32
+    (r % LONG_WORD_RANGE) as u32
 }

@@ -10,7 +10,7 @@ use lib.Seq.{take-suc, drop-cons, set-at, append-snoc, take-all}
 use lib.Dec.{ltb}
 use Rattle.acceptance.specs.Accept.{cellsFit}
 use Rattle.tape.specs.Layout.{numberAt, cellsFrom}
-use Rattle.tape.specs.Load.{pasted, stored}
+use Rattle.tape.specs.Load.{pasted, storedBlock}
 
 pub length-cells : (p : List ℕ) (at k : ℕ) → length (cellsFrom p at k) ≡ k
 unfolding cellsFrom
@@ -55,8 +55,8 @@ paste-all d cs r i e h = h ∙ rw (e, take-all (length cs) cs (omega arith))
 
 -- `&mut s[i..]` is lent as `take (n - i) (drop i s)`, n being the length, and comes back between `take i s` and `drop (n - i) (drop i s)`
 pub stored-back : (s cs : List ℕ) (i : ℕ)
-    → take i s ++ (pasted (take (length s - i) (drop i s)) cs ++ drop (length s - i) (drop i s)) ≡ stored s i cs
-unfolding stored
+    → take i s ++ (pasted (take (length s - i) (drop i s)) cs ++ drop (length s - i) (drop i s)) ≡ storedBlock s i cs
+unfolding storedBlock
 stored-back s cs i =
     let l : length (drop i s) ≤ length s - i = simp length-drop (omega arith) in
     rw (take-all (length s - i) (drop i s) l, drop-of-length-le (drop i s) l, append-nil)

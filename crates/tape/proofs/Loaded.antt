@@ -9,7 +9,7 @@ use lib.ListN.{length, take, drop, length-drop}
 use lib.Seq.{drop-drop}
 use Rattle.tape.specs.Layout.{lengthOf, kindOf, payloadOf, restOf, recordsOf, firstCell, cellCount, blockCells}
 use Rattle.tape.specs.Judge.{lengthFits}
-use Rattle.tape.specs.Load.{stored, loadRecord, loadRecords}
+use Rattle.tape.specs.Load.{storedBlock, loadRecord, loadRecords}
 use Rattle.tape.specs.Steps.{RecordFits, RecordsFit, ControlThere}
 use Rattle.tape.proofs.Records.{tail, length-tail, length-payload, records-none, records-more}
 use Rattle.tape.proofs.Judged.{fits-split}
@@ -22,7 +22,7 @@ payload-fits t p k l b h e q f o =
 pub load-fits : (n k : ℕ) (t p : List ℕ) → RecordFits n t → k ≡ kindOf t → k ≡ 1 → p ≡ payloadOf t → (4 ≤ length p) × (firstCell p + cellCount p ≤ n)
 load-fits n k t p f e o q = let b = f .block (sym e ∙ o) in rw q (omega (arith, length-payload t (f .whole)), b .1)
 
-pub a-block : (k : ℕ) (s t p r : List ℕ) → k ≡ kindOf t → k ≡ 1 → p ≡ payloadOf t → r ≡ stored s (firstCell p) (blockCells p) → r ≡ loadRecord s t
+pub a-block : (k : ℕ) (s t p r : List ℕ) → k ≡ kindOf t → k ≡ 1 → p ≡ payloadOf t → r ≡ storedBlock s (firstCell p) (blockCells p) → r ≡ loadRecord s t
 unfolding loadRecord
 a-block k s t p r e o q i = rw (eq-eqb (kindOf t) 1 (sym e ∙ o), ← q) i
 

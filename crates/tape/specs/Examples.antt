@@ -13,12 +13,12 @@ use Rattle.machine.specs.declared.Verdict.the-variants.{Accepted, Rejected}
 use Rattle.acceptance.specs.Accept.{sizeFits, cellsFit, stateFits, controlFits, judgeStore}
 use Rattle.tape.specs.Layout.{lengthOf, kindOf, payloadOf, restOf, recordsWithin, recordsOf, firstOf, cellsFrom, blockCells, controlOf}
 use Rattle.tape.specs.Judge.{kindKnown, inOrder, lengthFits, judgeBlock, controlGood, judgeControl, judgePayload, judgeRecord, judgeRecords, judgeTape}
-use Rattle.tape.specs.Load.{pasted, stored, loadRecord, loadRecords, loadedControl, judgeLoad, loading}
+use Rattle.tape.specs.Load.{pasted, storedBlock, loadRecord, loadRecords, loadedControl, judgeLoad, loading}
 use Rattle.tape.specs.Remark.{judgeReading, noSpan, remarkSpan}
 
 -- opens what a tape is read by
 unfoldable pub opened : ℕ
-unfolding lengthOf kindOf payloadOf restOf recordsWithin recordsOf firstOf controlOf kindKnown inOrder lengthFits controlGood judgeControl judgePayload judgeRecord judgeRecords judgeTape sizeFits cellsFit stateFits controlFits judgeStore loadRecord loadRecords loadedControl judgeLoad loading judgeReading remarkSpan cellsFrom blockCells judgeBlock pasted stored
+unfolding lengthOf kindOf payloadOf restOf recordsWithin recordsOf firstOf controlOf kindKnown inOrder lengthFits controlGood judgeControl judgePayload judgeRecord judgeRecords judgeTape sizeFits cellsFit stateFits controlFits judgeStore loadRecord loadRecords loadedControl judgeLoad loading judgeReading remarkSpan cellsFrom blockCells judgeBlock pasted storedBlock
 opened = 0
 
 -- with flags f and the last byte z

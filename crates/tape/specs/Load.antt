@@ -18,12 +18,12 @@ unfoldable pub pasted : List ℕ → List ℕ → List ℕ
 pasted part cs = cs ++ drop (length cs) part
 
 -- the cells cs go into the part of the store that begins at its cell i
-unfoldable pub stored : List ℕ → ℕ → List ℕ → List ℕ
-stored s i cs = take i s ++ pasted (drop i s) cs
+unfoldable pub storedBlock : List ℕ → ℕ → List ℕ → List ℕ
+storedBlock s i cs = take i s ++ pasted (drop i s) cs
 
 -- kind 1, block
 unfoldable pub loadRecord : List ℕ → List ℕ → List ℕ
-loadRecord s t = cond (eqb (kindOf t) 1) (stored s (firstCell (payloadOf t)) (blockCells (payloadOf t))) s
+loadRecord s t = cond (eqb (kindOf t) 1) (storedBlock s (firstCell (payloadOf t)) (blockCells (payloadOf t))) s
 
 -- record by record: later blocks overwrite, cells that no block names keep what they held
 unfoldable pub loadRecords : List ℕ → List (List ℕ) → List ℕ

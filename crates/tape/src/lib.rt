@@ -9,7 +9,7 @@ ghost use Rattle.machine.specs.declared.Verdict.the-variants.{Accepted};
 ghost use Rattle.acceptance.specs.Accept.{cellsFit};
 ghost use Rattle.tape.specs.Layout.{numberAt, lengthOf, kindOf, payloadOf, recordsOf, firstOf, firstCell, cellCount, cellsFrom, blockCells, controlOf};
 ghost use Rattle.tape.specs.Judge.{kindKnown, inOrder, lengthFits, judgeBlock, controlGood, judgeControl, judgePayload, judgeRecord, judgeRecords, judgeTape};
-ghost use Rattle.tape.specs.Load.{pasted, stored, loadRecord, loadRecords, loadedControl, judgeLoad, loading};
+ghost use Rattle.tape.specs.Load.{pasted, storedBlock, loadRecord, loadRecords, loadedControl, judgeLoad, loading};
 ghost use Rattle.tape.specs.Remark.{judgeReading, spanBy, remarkSpan, remarkText, placeFrom};
 ghost use Rattle.tape.specs.Steps.{stepAfter, stepOf, lookFor, RecordFits, RecordsFit, ControlThere, Whole};
 use machine::Control;
@@ -331,7 +331,7 @@ fn copy_cells(dst: &mut [u32], p: &[u8], k: usize)
 // A block goes into the part of the store that begins at its first cell.
 fn load_block(store: &mut [u32], p: &[u8])
     requires { ⌜ (4 ≤ length (now p)) × (firstCell (now p) + cellCount (now p) ≤ length (now store)) ⌝ }
-    ensures { λ _. ⌜ now (store .exit) ≡ stored (now (store .entry)) (firstCell (now (p .entry))) (blockCells (now (p .entry))) ⌝ }
+    ensures { λ _. ⌜ now (store .exit) ≡ storedBlock (now (store .entry)) (firstCell (now (p .entry))) (blockCells (now (p .entry))) ⌝ }
 {
     let first = number_at(p, 0) as usize;
     let k = (p.len() - 4) / 4;

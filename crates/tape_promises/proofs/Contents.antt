@@ -12,7 +12,7 @@ use lib.Dec.{ltb, eqb}
 use Rattle.machine.specs.declared.Verdict.the-variants.{Accepted}
 use Rattle.acceptance.specs.Accept.{cellsFit}
 use Rattle.tape.specs.Layout.{lengthOf, payloadOf, recordsOf, firstOf, firstCell, cellCount, blockCells, flagsOf, controlOf}
-use Rattle.tape.specs.Load.{pasted, stored, loadRecord, loadRecords}
+use Rattle.tape.specs.Load.{pasted, storedBlock, loadRecord, loadRecords}
 use Rattle.tape.specs.Remark.{spanBy}
 use Rattle.tape.proofs.Cells.{length-cells}
 use Rattle.tape.proofs.Judged.{both, first-none, first-here, first-next}
@@ -24,39 +24,39 @@ use Rattle.tape_promises.proofs.Grammars.{Reads, reads}
 -- ---- the cells of a store that takes a block
 
 module _ (s : List ℕ) (b : Block) (h : b .first + length (b .cells) ≤ length s) where
-  length-stored : length (stored s (b .first) (b .cells)) ≡ length s
-  unfolding stored pasted
+  length-stored : length (storedBlock s (b .first) (b .cells)) ≡ length s
+  unfolding storedBlock pasted
   length-stored = simp (length-append, length-take, length-drop) (omega arith)
 
   front : length (take (b .first) s) ≡ b .first
   front = simp length-take (omega arith)
 
-  before : (i : ℕ) → i < b .first → getD (stored s (b .first) (b .cells)) i 0 ≡ getD s i 0
-  unfolding stored
+  before : (i : ℕ) → i < b .first → getD (storedBlock s (b .first) (b .cells)) i 0 ≡ getD s i 0
+  unfolding storedBlock
   before i l = List·getD-append (take (b .first) s) _ 0 i (omega (arith, front)) ∙ getD-take (b .first) s i 0 l
 
   -- from the block's first cell on
-  from : (j : ℕ) → getD (stored s (b .first) (b .cells)) (b .first + j) 0 ≡ getD (b .cells ++ drop (length (b .cells)) (drop (b .first) s)) j 0
-  unfolding stored pasted
+  from : (j : ℕ) → getD (storedBlock s (b .first) (b .cells)) (b .first + j) 0 ≡ getD (b .cells ++ drop (length (b .cells)) (drop (b .first) s)) j 0
+  unfolding storedBlock pasted
   from j = rw front at (getD-append-add (take (b .first) s) (b .cells ++ drop (length (b .cells)) (drop (b .first) s)) j 0)
 
-  inside : (i : ℕ) → Names b i → getD (stored s (b .first) (b .cells)) i 0 ≡ getD (b .cells) (i - b .first) 0
+  inside : (i : ℕ) → Names b i → getD (storedBlock s (b .first) (b .cells)) i 0 ≡ getD (b .cells) (i - b .first) 0
   inside i m =
       let f = m .from in
       let l = m .below in
       let e : b .first + (i - b .first) ≡ i = omega arith in
       rw e at (from (i - b .first)) ∙ List·getD-append (b .cells) _ 0 (i - b .first) (omega arith)
 
-  beyond : (i : ℕ) → b .first + length (b .cells) ≤ i → getD (stored s (b .first) (b .cells)) i 0 ≡ getD s i 0
+  beyond : (i : ℕ) → b .first + length (b .cells) ≤ i → getD (storedBlock s (b .first) (b .cells)) i 0 ≡ getD s i 0
   beyond i l =
       let k = i - b .first - length (b .cells) in
       let e : b .first + (length (b .cells) + k) ≡ i = omega arith in
       rw e at (from (length (b .cells) + k) ∙ getD-append-add (b .cells) _ k 0 ∙ getD-drop (length (b .cells)) (drop (b .first) s) k 0 ∙ getD-drop (b .first) s (length (b .cells) + k) 0)
 
-  outside : (i : ℕ) → (Names b i → ⊥) → getD (stored s (b .first) (b .cells)) i 0 ≡ getD s i 0
+  outside : (i : ℕ) → (Names b i → ⊥) → getD (storedBlock s (b .first) (b .cells)) i 0 ≡ getD s i 0
   outside i o = at (decLt i (b .first)) (decLt i (b .first + length (b .cells)))
     where
-      at : Dec (i < b .first) → Dec (i < b .first + length (b .cells)) → getD (stored s (b .first) (b .cells)) i 0 ≡ getD s i 0
+      at : Dec (i < b .first) → Dec (i < b .first + length (b .cells)) → getD (storedBlock s (b .first) (b .cells)) i 0 ≡ getD s i 0
       at (yes l) d = before i l
       at (no l) (yes u) = absurd (o (record { from = omega arith; below = u }))
       at (no l) (no u) = beyond i (omega arith)
@@ -65,7 +65,7 @@ module _ (s : List ℕ) (b : Block) (h : b .first + length (b .cells) ≤ length
 
 loadBlocks : List ℕ → List Block → List ℕ
 loadBlocks s [] = s
-loadBlocks s (b ∷ bs) = loadBlocks (stored s (b .first) (b .cells)) bs
+loadBlocks s (b ∷ bs) = loadBlocks (storedBlock s (b .first) (b .cells)) bs
 
 Fit : ℕ → List Block → Type 0
 Fit n [] = Unit {0}
@@ -76,7 +76,7 @@ unfolding loadBlocks Fit
 length-loaded s [] f = refl
 length-loaded s (b ∷ bs) f =
     let e = length-stored s b (f .0) in
-    length-loaded (stored s (b .first) (b .cells)) bs (rw e (f .1)) ∙ e
+    length-loaded (storedBlock s (b .first) (b .cells)) bs (rw e (f .1)) ∙ e
 
 -- one block before the others
 holds-more : (i held stay x : ℕ) (b : Block) (bs : List Block) → (Names b i → stay ≡ getD (b .cells) (i - b .first) 0) → ((Names b i → ⊥) → stay ≡ held)
@@ -94,8 +94,8 @@ holds : (i : ℕ) (s : List ℕ) (bs : List Block) → Fit (length s) bs → Hol
 unfolding loadBlocks Fit Unnamed
 holds i s [] f = kept [] tt
 holds i s (b ∷ bs) f =
-    holds-more i (getD s i 0) (getD (stored s (b .first) (b .cells)) i 0) _ b bs (inside s b (f .0) i) (outside s b (f .0) i)
-    (holds i (stored s (b .first) (b .cells)) bs (rw (length-stored s b (f .0)) (f .1)))
+    holds-more i (getD s i 0) (getD (storedBlock s (b .first) (b .cells)) i 0) _ b bs (inside s b (f .0) i) (outside s b (f .0) i)
+    (holds i (storedBlock s (b .first) (b .cells)) bs (rw (length-stored s b (f .0)) (f .1)))
 
 pub only-kept : {i held x : ℕ} {bs : List Block} → Holds i held bs x → Unnamed bs i → x ≡ held
 unfolding Unnamed
@@ -112,7 +112,7 @@ module _ (k : ℕ) (p t w : List ℕ) (r : Reads k p t w) where
   six : 6 ≤ length w
   six = let h = r .whole in omega arith
 
-  load-block : (s : List ℕ) → k ≡ 1 → loadRecords s (recordsOf w) ≡ loadRecords (stored s (firstCell p) (blockCells p)) (recordsOf t)
+  load-block : (s : List ℕ) → k ≡ 1 → loadRecords s (recordsOf w) ≡ loadRecords (storedBlock s (firstCell p) (blockCells p)) (recordsOf t)
   unfolding loadRecord
   load-block s e = load-more s w six ∙ rw (r .kind, e, r .payload, r .rest)
 
@@ -131,7 +131,7 @@ reads-end e x = rw append-nil at (reads e [] [] 3 x)
 
 load-is : {n : ℕ} {w : List ℕ} (s : List ℕ) (r : Records n w) → loadRecords s (recordsOf w) ≡ loadBlocks s (blocksOf r)
 unfolding blocksOf loadBlocks
-load-is s (block-then h p t d b r) = load-block 1 p t (h ++ (p ++ t)) (reads h p t 1 d) s refl ∙ load-is (stored s (firstCell p) (blockCells p)) r
+load-is s (block-then h p t d b r) = load-block 1 p t (h ++ (p ++ t)) (reads h p t 1 d) s refl ∙ load-is (storedBlock s (firstCell p) (blockCells p)) r
 load-is s (remark-then h p t d l r) = load-other 4 p t (h ++ (p ++ t)) (reads h p t 4 d) s (λ z. omega arith) ∙ load-is s r
 load-is s (control-then-end h p e d c x) =
     load-other 2 p e (h ++ (p ++ e)) (reads h p e 2 d) s (λ z. omega arith)
@@ -172,13 +172,13 @@ fit-drop zero s e = e
 fit-drop (suc n) [] e = e
 fit-drop (suc n) (x ∷ s) e = fit-drop n s (both (ltb x 134217728) (cellsFit s) e .1)
 
-fit-stored : (s : List ℕ) (i : ℕ) (cs : List ℕ) → cellsFit s ≡ true → cellsFit cs ≡ true → cellsFit (stored s i cs) ≡ true
-unfolding stored pasted
+fit-stored : (s : List ℕ) (i : ℕ) (cs : List ℕ) → cellsFit s ≡ true → cellsFit cs ≡ true → cellsFit (storedBlock s i cs) ≡ true
+unfolding storedBlock pasted
 fit-stored s i cs e f = fit-append (take i s) _ (fit-take i s e) (fit-append cs _ f (fit-drop (length cs) (drop i s) (fit-drop i s e)))
 
 fit-blocks : {n : ℕ} {w : List ℕ} (s : List ℕ) (r : Records n w) → cellsFit s ≡ true → cellsFit (loadBlocks s (blocksOf r)) ≡ true
 unfolding blocksOf loadBlocks
-fit-blocks s (block-then h p t d b r) e = fit-blocks (stored s (firstCell p) (blockCells p)) r (fit-stored s (firstCell p) (blockCells p) e (b .cells))
+fit-blocks s (block-then h p t d b r) e = fit-blocks (storedBlock s (firstCell p) (blockCells p)) r (fit-stored s (firstCell p) (blockCells p) e (b .cells))
 fit-blocks s (remark-then h p t d l r) e = fit-blocks s r e
 fit-blocks s (control-then-end h p e d c x) f = f
 

@@ -1,37 +1,28 @@
 // Address handling, register transfer and byte transfer (14.8): each function does the micro-operations of its meaning, in their order.
 ghost use mathlib.Core.Path.{_≡_};
 ghost use Prim.Native.Nat.{_<_};
-ghost use Rattle.row.specs.Row.{controlAt, IsRow};
-ghost use Rattle.row.specs.Answers.{ending, endingOf};
-ghost use Rattle.definition.specs.Codes.{executing};
-ghost use Rattle.definition.specs.Meaning.{AM, AL, HL, HS, RL, RS, RX, DL, DS, BZ, BL};
-ghost use Rattle.definition.specs.Operands.{extended};
-use row::End;
-use row::Row;
-
-// signed byte.
-pub fn extend(b: u32) -> u32
-    requires { ⌜ b < 4096 ⌝ }
-    ensures value { λ r. ⌜ r ≡ extended b ⌝ }
-    ensures bound { λ r. ⌜ r < 16777216 ⌝ }
-{
-    registers::signed24(b)
-}
+ghost use Rattle.registers.specs.Reg.{wordRange};
+ghost use Rattle.control_row.specs.Row.{controlAt, IsRow};
+ghost use Rattle.control_row.specs.Answers.{ending, endingOf};
+ghost use Rattle.definition_instructions.specs.Codes.{execute};
+ghost use Rattle.definition_instructions.specs.Meaning.{AM, AL, HL, HS, RL, RS, RX, DL, DS, BZ, BL};
+use control_row::End;
+use control_row::Row;
 
 // Modify Next Address.
 pub fn am(s: &mut [u32], k: &mut Row, w: u32, sb: u32) -> End
     requires { ⌜ IsRow (now k) ⌝ }
-    ensures value { λ r. ⌜ endingOf r (now (s .exit)) (controlAt (now (k .exit))) ≡ ending (executing AM w sb (now (s .entry)) (controlAt (now (k .entry)))) ⌝ }
+    ensures value { λ r. ⌜ endingOf r (now (s .exit)) (controlAt (now (k .exit))) ≡ ending (execute AM w sb (now (s .entry)) (controlAt (now (k .entry)))) ⌝ }
     ensures kept { λ _. ⌜ IsRow (now (k .exit)) ⌝ }
 {
-    row::set_pending(k, sb);
+    control_row::set_pending(k, sb);
     End::Done
 }
 
 // Load Address.
 pub fn al(s: &mut [u32], k: &mut Row, w: u32, sb: u32) -> End
     requires { ⌜ IsRow (now k) ⌝ }
-    ensures value { λ r. ⌜ endingOf r (now (s .exit)) (controlAt (now (k .exit))) ≡ ending (executing AL w sb (now (s .entry)) (controlAt (now (k .entry)))) ⌝ }
+    ensures value { λ r. ⌜ endingOf r (now (s .exit)) (controlAt (now (k .exit))) ≡ ending (execute AL w sb (now (s .entry)) (controlAt (now (k .entry)))) ⌝ }
     ensures kept { λ _. ⌜ IsRow (now (k .exit)) ⌝ }
 {
     machine::put_word(s, w, sb);
@@ -41,7 +32,7 @@ pub fn al(s: &mut [u32], k: &mut Row, w: u32, sb: u32) -> End
 // Load Half Register.
 pub fn hl(s: &mut [u32], k: &mut Row, w: u32, sb: u32) -> End
     requires { ⌜ IsRow (now k) ⌝ }
-    ensures value { λ r. ⌜ endingOf r (now (s .exit)) (controlAt (now (k .exit))) ≡ ending (executing HL w sb (now (s .entry)) (controlAt (now (k .entry)))) ⌝ }
+    ensures value { λ r. ⌜ endingOf r (now (s .exit)) (controlAt (now (k .exit))) ≡ ending (execute HL w sb (now (s .entry)) (controlAt (now (k .entry)))) ⌝ }
     ensures kept { λ _. ⌜ IsRow (now (k .exit)) ⌝ }
 {
     if machine::is_absent(s, sb) {
@@ -56,13 +47,13 @@ pub fn hl(s: &mut [u32], k: &mut Row, w: u32, sb: u32) -> End
 // Store Half Register.
 pub fn hs(s: &mut [u32], k: &mut Row, w: u32, sb: u32) -> End
     requires { ⌜ IsRow (now k) ⌝ }
-    ensures value { λ r. ⌜ endingOf r (now (s .exit)) (controlAt (now (k .exit))) ≡ ending (executing HS w sb (now (s .entry)) (controlAt (now (k .entry)))) ⌝ }
+    ensures value { λ r. ⌜ endingOf r (now (s .exit)) (controlAt (now (k .exit))) ≡ ending (execute HS w sb (now (s .entry)) (controlAt (now (k .entry)))) ⌝ }
     ensures kept { λ _. ⌜ IsRow (now (k .exit)) ⌝ }
 {
     if machine::is_absent(s, sb) {
         return End::Faulted;
     }
-    if row::is_violation(s, k, sb / 2) {
+    if control_row::is_violation(s, k, sb / 2) {
         return End::Faulted;
     }
     let x = machine::word_at(s, w);
@@ -73,7 +64,7 @@ pub fn hs(s: &mut [u32], k: &mut Row, w: u32, sb: u32) -> End
 // Load Register.
 pub fn rl(s: &mut [u32], k: &mut Row, w: u32, sb: u32) -> End
     requires { ⌜ IsRow (now k) ⌝ }
-    ensures value { λ r. ⌜ endingOf r (now (s .exit)) (controlAt (now (k .exit))) ≡ ending (executing RL w sb (now (s .entry)) (controlAt (now (k .entry)))) ⌝ }
+    ensures value { λ r. ⌜ endingOf r (now (s .exit)) (controlAt (now (k .exit))) ≡ ending (execute RL w sb (now (s .entry)) (controlAt (now (k .entry)))) ⌝ }
     ensures kept { λ _. ⌜ IsRow (now (k .exit)) ⌝ }
 {
     if machine::is_absent(s, sb) {
@@ -87,13 +78,13 @@ pub fn rl(s: &mut [u32], k: &mut Row, w: u32, sb: u32) -> End
 // Store Register.
 pub fn rs(s: &mut [u32], k: &mut Row, w: u32, sb: u32) -> End
     requires { ⌜ IsRow (now k) ⌝ }
-    ensures value { λ r. ⌜ endingOf r (now (s .exit)) (controlAt (now (k .exit))) ≡ ending (executing RS w sb (now (s .entry)) (controlAt (now (k .entry)))) ⌝ }
+    ensures value { λ r. ⌜ endingOf r (now (s .exit)) (controlAt (now (k .exit))) ≡ ending (execute RS w sb (now (s .entry)) (controlAt (now (k .entry)))) ⌝ }
     ensures kept { λ _. ⌜ IsRow (now (k .exit)) ⌝ }
 {
     if machine::is_absent(s, sb) {
         return End::Faulted;
     }
-    if row::is_violation(s, k, sb / 2) {
+    if control_row::is_violation(s, k, sb / 2) {
         return End::Faulted;
     }
     let x = machine::word_at(s, w);
@@ -104,7 +95,7 @@ pub fn rs(s: &mut [u32], k: &mut Row, w: u32, sb: u32) -> End
 // Exchange Register and Store: W is loaded before Test Protection.
 pub fn rx(s: &mut [u32], k: &mut Row, w: u32, sb: u32) -> End
     requires { ⌜ IsRow (now k) ⌝ }
-    ensures value { λ r. ⌜ endingOf r (now (s .exit)) (controlAt (now (k .exit))) ≡ ending (executing RX w sb (now (s .entry)) (controlAt (now (k .entry)))) ⌝ }
+    ensures value { λ r. ⌜ endingOf r (now (s .exit)) (controlAt (now (k .exit))) ≡ ending (execute RX w sb (now (s .entry)) (controlAt (now (k .entry)))) ⌝ }
     ensures kept { λ _. ⌜ IsRow (now (k .exit)) ⌝ }
 {
     if machine::is_absent(s, sb) {
@@ -113,7 +104,7 @@ pub fn rx(s: &mut [u32], k: &mut Row, w: u32, sb: u32) -> End
     let x = machine::word_at(s, w);
     let y = machine::word_at(s, sb / 2);
     machine::put_word(s, w, y);
-    if row::is_violation(s, k, sb / 2) {
+    if control_row::is_violation(s, k, sb / 2) {
         return End::Faulted;
     }
     machine::put_word(s, sb / 2, x);
@@ -123,7 +114,7 @@ pub fn rx(s: &mut [u32], k: &mut Row, w: u32, sb: u32) -> End
 // Load Double Register: the first word is read after W was written.
 pub fn dl(s: &mut [u32], k: &mut Row, w: u32, sb: u32) -> End
     requires { ⌜ IsRow (now k) ⌝ }
-    ensures value { λ r. ⌜ endingOf r (now (s .exit)) (controlAt (now (k .exit))) ≡ ending (executing DL w sb (now (s .entry)) (controlAt (now (k .entry)))) ⌝ }
+    ensures value { λ r. ⌜ endingOf r (now (s .exit)) (controlAt (now (k .exit))) ≡ ending (execute DL w sb (now (s .entry)) (controlAt (now (k .entry)))) ⌝ }
     ensures kept { λ _. ⌜ IsRow (now (k .exit)) ⌝ }
 {
     if machine::is_absent(s, sb) {
@@ -141,19 +132,19 @@ pub fn dl(s: &mut [u32], k: &mut Row, w: u32, sb: u32) -> End
 // Store Double Register: the second word is tested and written, then the first.
 pub fn ds(s: &mut [u32], k: &mut Row, w: u32, sb: u32) -> End
     requires { ⌜ IsRow (now k) ⌝ }
-    ensures value { λ r. ⌜ endingOf r (now (s .exit)) (controlAt (now (k .exit))) ≡ ending (executing DS w sb (now (s .entry)) (controlAt (now (k .entry)))) ⌝ }
+    ensures value { λ r. ⌜ endingOf r (now (s .exit)) (controlAt (now (k .exit))) ≡ ending (execute DS w sb (now (s .entry)) (controlAt (now (k .entry)))) ⌝ }
     ensures kept { λ _. ⌜ IsRow (now (k .exit)) ⌝ }
 {
     if machine::is_absent(s, sb) {
         return End::Faulted;
     }
-    if row::is_violation(s, k, sb / 2) {
+    if control_row::is_violation(s, k, sb / 2) {
         return End::Faulted;
     }
     let x = machine::word_at(s, w);
     machine::put_word(s, sb / 2, x);
     let a = machine::first_word(sb);
-    if row::is_violation(s, k, a / 2) {
+    if control_row::is_violation(s, k, a / 2) {
         return End::Faulted;
     }
     let p = machine::previous_register(w);
@@ -165,7 +156,7 @@ pub fn ds(s: &mut [u32], k: &mut Row, w: u32, sb: u32) -> End
 // Load Byte with Zeroes.
 pub fn bz(s: &mut [u32], k: &mut Row, w: u32, sb: u32) -> End
     requires { ⌜ IsRow (now k) ⌝ }
-    ensures value { λ r. ⌜ endingOf r (now (s .exit)) (controlAt (now (k .exit))) ≡ ending (executing BZ w sb (now (s .entry)) (controlAt (now (k .entry)))) ⌝ }
+    ensures value { λ r. ⌜ endingOf r (now (s .exit)) (controlAt (now (k .exit))) ≡ ending (execute BZ w sb (now (s .entry)) (controlAt (now (k .entry)))) ⌝ }
     ensures kept { λ _. ⌜ IsRow (now (k .exit)) ⌝ }
 {
     if machine::is_absent(s, sb) {
@@ -179,14 +170,14 @@ pub fn bz(s: &mut [u32], k: &mut Row, w: u32, sb: u32) -> End
 // Load Integer Byte.
 pub fn bl(s: &mut [u32], k: &mut Row, w: u32, sb: u32) -> End
     requires { ⌜ IsRow (now k) ⌝ }
-    ensures value { λ r. ⌜ endingOf r (now (s .exit)) (controlAt (now (k .exit))) ≡ ending (executing BL w sb (now (s .entry)) (controlAt (now (k .entry)))) ⌝ }
+    ensures value { λ r. ⌜ endingOf r (now (s .exit)) (controlAt (now (k .exit))) ≡ ending (execute BL w sb (now (s .entry)) (controlAt (now (k .entry)))) ⌝ }
     ensures kept { λ _. ⌜ IsRow (now (k .exit)) ⌝ }
 {
     if machine::is_absent(s, sb) {
         return End::Faulted;
     }
     let b = machine::byte_at(s, sb);
-    let e = extend(b);
+    let e = registers::signed_byte(b);
     machine::put_word(s, w, e);
     End::Done
 }

@@ -1,7 +1,7 @@
-//! The stored cases of `crates/cases`: runs and keys on small stores, with the
+//! The stored cases of `crates/cases_calls`: runs and keys on small stores, with the
 //! answers of the emulation.
 //!
-//! The format of the two files is described in `crates/cases/README.md`.
+//! The format of the two files is described in `crates/cases_calls/README.md`.
 
 #![forbid(unsafe_code)]
 #![warn(missing_docs)]

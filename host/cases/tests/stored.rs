@@ -3,7 +3,7 @@
 use std::path::PathBuf;
 
 fn stored(name: &str) -> Vec<u8> {
-    let folder = PathBuf::from(env!("CARGO_MANIFEST_DIR")).join("../../crates/cases");
+    let folder = PathBuf::from(env!("CARGO_MANIFEST_DIR")).join("../../crates/cases_calls");
     std::fs::read(folder.join(name)).unwrap()
 }
 

@@ -6,7 +6,7 @@
 //! it is not given). The first line is like `loadrun`'s: outcome, executed
 //! instructions, entries and IC. What was typed follows.
 
-use rc4000::{press_autoload, press_reset, run, Control, Devices, Outcome, Refusal};
+use rc4000::{Machine, Outcome, Refusal};
 use std::error::Error;
 use std::io::Write;
 use std::process::ExitCode;
@@ -39,16 +39,13 @@ fn characters(file: &str) -> Result<Vec<u8>, String> {
 /// Presses both keys and runs. Every run goes on with the registers, the
 /// characters and the typing space that the one before left.
 fn autoload(characters: &[u8], runs: u32) -> Result<Ended, Refusal> {
-    let (mut store, mut control) = (vec![0; CELLS], Control::fresh());
-    let mut devices = Devices::default();
+    let mut machine = Machine::fresh(CELLS);
     let mut typing = vec![0; TYPING_SPACE];
-    press_reset(&mut store, &mut control)?;
-    let mut taken = press_autoload(&mut store, &mut control, &mut devices, characters)?;
+    machine.press_reset()?;
+    let mut taken = machine.press_autoload(characters)?;
     let (mut outcome, mut executed, mut entries, mut typed) = (Outcome::Spent, 0, 0, 0);
     for _ in 0..runs {
-        let (cells, record, registers) = (&mut store, &mut control, &mut devices);
-        let (rest, space) = (&characters[taken..], &mut typing[typed..]);
-        let report = run(cells, record, 0, BUDGET, registers, rest, space)?;
+        let report = machine.run(0, BUDGET, &characters[taken..], &mut typing[typed..])?;
         taken += report.taken;
         typed += report.typed;
         executed += u64::from(report.executed);
@@ -63,7 +60,7 @@ fn autoload(characters: &[u8], runs: u32) -> Result<Ended, Refusal> {
         outcome,
         executed,
         entries,
-        ic: control.ic,
+        ic: machine.control.ic,
         typed: typing,
     })
 }

@@ -1,8 +1,9 @@
 //! The proved RC 4000 emulator, for controllers written in Rust.
 //!
-//! Safe functions over the C calls of the static library `libcapi.a`. The
+//! Safe functions over the C calls of the static library `librc4000.a`. The
 //! store is a row of cells that the caller lends; a cell is
-//! `key * 16_777_216 + word` with a key of 3 and a word of 24 bits.
+//! `key * 16_777_216 + word` with a key of 3 and a word of 24 bits. [`Machine`]
+//! has a store of its own and the same calls as methods.
 //!
 //! The low-speed channel has a tape reader, device 0, and a typewriter, device
 //! 1: a call lends the reader's characters and a buffer for the typed ones. A
@@ -13,6 +14,7 @@
 #![warn(missing_docs)]
 
 mod ffi;
+mod machine;
 mod types;
 
 /// The Rust program that the README shows, as a test.
@@ -20,7 +22,8 @@ mod types;
 #[doc = include_str!("../../../README.md")]
 struct Readme;
 
-pub use types::{Control, Devices, Kind, Outcome, Refusal, Report};
+pub use machine::Machine;
+pub use types::{cell, key, line, word, Control, Devices, Kind, Outcome, Refusal, Report};
 
 /// Runs at most `budget` cycles, at most 65,535; the raised `lines` (bits 3 to
 /// 23) join IR first.

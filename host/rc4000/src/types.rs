@@ -1,6 +1,35 @@
-//! Control record, device buffer registers, outcome and refusals.
+//! Cells, control record, device buffer registers, outcome and refusals.
 
 use std::fmt;
+
+/// 2^24, the number of a word's values.
+const WORD: u32 = 16_777_216;
+
+/// The word of a cell.
+pub const fn word(cell: u32) -> u32 {
+    cell % WORD
+}
+
+/// The key of a cell.
+pub const fn key(cell: u32) -> u32 {
+    cell / WORD
+}
+
+/// The cell with this key, 0 to 7, and the right-most 24 bits of this word. A
+/// key of 8 to 255 gives a cell that every call refuses.
+pub const fn cell(key: u32, word: u32) -> u32 {
+    key.wrapping_mul(WORD).wrapping_add(word % WORD)
+}
+
+/// The bit with this number from the left, 0 to 23, of lines, IR or IM; 0 for a
+/// number over 23. A run takes lines 3 to 23; line p is told by the number 2p.
+pub const fn line(number: u32) -> u32 {
+    if number < 24 {
+        8_388_608 >> number
+    } else {
+        0
+    }
+}
 
 /// The control record of a machine. Reset state implies monitor mode and
 /// interrupts disabled.
@@ -37,7 +66,8 @@ impl Control {
     pub const START_ADDRESS: u32 = 14;
 
     /// The record after power on: zeros, but bit 0 of PR one, in the reset
-    /// state.
+    /// state. A run in that state makes no cycle; the start key, the autoload
+    /// key or a tape leaves it.
     pub const fn fresh() -> Self {
         Control {
             ic: 0,
@@ -128,9 +158,10 @@ pub enum Refusal {
     BlockPlace = 9,
     /// 10: a cell of a block of 134,217,728 or more.
     BlockCell = 10,
-    /// 11: records in the wrong order, or bytes after the end.
+    /// 11: not the end after the control record, an end with no control record,
+    /// or bytes after the end.
     RecordOrder = 11,
-    /// 12: a tape of over 65,536 bytes.
+    /// 12: a tape over 65,536 bytes.
     TapeLength = 12,
     /// 13: a reader character over 63, or a device buffer register over 24
     /// bits.
@@ -141,6 +172,31 @@ impl Refusal {
     /// The refusal's number.
     pub const fn number(self) -> u32 {
         self as u32
+    }
+
+    /// What the refusal means.
+    pub const fn text(self) -> &'static str {
+        match self {
+            Refusal::StoreSize => "fewer than 8 or more than 8,388,608 cells",
+            Refusal::CellValue => "a cell of 134,217,728 or more",
+            Refusal::ControlField => "a control field outside the widths and rules",
+            Refusal::Lines => "lines with bit 0, 1 or 2 set, or over 24 bits",
+            Refusal::Budget => "a budget over 65,535",
+            Refusal::TapeEnds => {
+                "the tape stops inside a header or payload, or before an end record"
+            }
+            Refusal::RecordKind => "a record kind not 1 to 4",
+            Refusal::RecordLength => "a record length wrong for the kind",
+            Refusal::BlockPlace => "a block beyond the store",
+            Refusal::BlockCell => "a cell of a block of 134,217,728 or more",
+            Refusal::RecordOrder => {
+                "not the end after the control record, an end with no control record, or bytes after the end"
+            }
+            Refusal::TapeLength => "a tape over 65,536 bytes",
+            Refusal::Device => {
+                "a reader character over 63, or a device buffer register over 24 bits"
+            }
+        }
     }
 
     /// The refusal with this number.
@@ -166,7 +222,7 @@ impl Refusal {
 
 impl fmt::Display for Refusal {
     fn fmt(&self, formatter: &mut fmt::Formatter) -> fmt::Result {
-        write!(formatter, "refused {}", self.number())
+        write!(formatter, "refused {}: {}", self.number(), self.text())
     }
 }
 

@@ -1,10 +1,10 @@
-use Rattle.running.specs.Cycle.{address}
+use Rattle.definition_runs.specs.Cycle.{address}
 use borrow.Author.Needs.{needs}
 use Rattle.cycle.proofs.address.Statement.{statement}
 use Rattle.cycle.proofs.address.Tie as tie
 
-displacement-requires : tie.Need-displacement-requires
-displacement-requires c κs = search needs
+signed-byte-requires : tie.Need-signed-byte-requires
+signed-byte-requires c κs = search needs
 
 pending-requires : tie.Need-pending-requires
 pending-requires c κs = search needs
@@ -23,13 +23,13 @@ indexed-requires c κs = search needs
 
 returns : tie.Need-returns
 unfolding address
-returns c = (rw (← (c .before .before .before .before .before .displacement .ensures .0), ← (rw (c .before .before .before .before .pending .ensures) at (c .before .before .before .sum24 .ensures .0)), ← (rw (c .before .before .ic .ensures) at (c .before .relative .ensures .0)), ← (c .indexed .ensures .0)), search needs)
+returns c = (rw (← (c .before .before .before .before .before .signed-byte .ensures .0), ← (rw (c .before .before .before .before .pending .ensures) at (c .before .before .before .sum24 .ensures .0)), ← (rw (c .before .before .ic .ensures) at (c .before .relative .ensures .0)), ← (c .indexed .ensures .0)), search needs)
 
 pub address-spec : {M : Type 1} → statement M
 address-spec =
     tie.close
     (tie.spec
-    displacement-requires
+    signed-byte-requires
     pending-requires
     sum24-requires
     ic-requires

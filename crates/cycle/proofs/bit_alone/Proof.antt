@@ -3,7 +3,7 @@ use native.Mathlib.Nat.{mod-lt, mod-le, le-trans, mul-le-mul-right, div-mul-le-s
 use native.Mathlib.Omega.{arith}
 use lib.Dec.{lit<}
 use lib.Pow.{shl-exact}
-use Rattle.running.specs.Cycle.{bitAlone}
+use Rattle.definition_runs.specs.Cycle.{bitAlone}
 use borrow.Author.Needs.{needs}
 use Rattle.cycle.proofs.bit_alone.Statement.{statement}
 use Rattle.cycle.proofs.bit_alone.Tie as tie

@@ -1,4 +1,4 @@
-use Rattle.running.specs.Cycle.{bitOf}
+use Rattle.definition_runs.specs.Cycle.{bitFromLeft}
 use borrow.Author.Needs.{needs}
 use Rattle.cycle.proofs.bit_of.Statement.{statement}
 use Rattle.cycle.proofs.bit_of.Tie as tie
@@ -10,7 +10,7 @@ shr-result : tie.Need-shr-result
 shr-result c = search needs
 
 returns : tie.Need-returns
-unfolding bitOf
+unfolding bitFromLeft
 returns c = search needs
 
 pub bit-of-spec : {M : Type 1} → statement M

@@ -1,4 +1,4 @@
-use Rattle.running.specs.Cycle.{lineCleared}
+use Rattle.definition_runs.specs.Cycle.{lineCleared}
 use borrow.Author.Needs.{needs}
 use Rattle.cycle.proofs.clear_line.Statement.{statement}
 use Rattle.cycle.proofs.clear_line.Tie as tie

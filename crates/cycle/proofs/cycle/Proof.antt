@@ -1,5 +1,5 @@
 use Rattle.cycle.proofs.Steps.{cycle-fetch, entered-with}
-use Rattle.running.specs.Cycle.{cycle}
+use Rattle.definition_runs.specs.Cycle.{cycle}
 use borrow.Author.Tests.{lt-ltb, le-ltb}
 use borrow.Author.Needs.{needs}
 use Rattle.cycle.proofs.cycle.Statement.{statement}

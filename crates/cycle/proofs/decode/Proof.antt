@@ -1,7 +1,7 @@
 use Rattle.cycle.proofs.Fields.{displacement-fits}
 use Rattle.cycle.proofs.Steps.{decode-violated, decode-passed}
 use mathlib.Core.Path.{sym, _∙_}
-use Rattle.running.specs.Cycle.{decode}
+use Rattle.definition_runs.specs.Cycle.{decode}
 use borrow.Author.Needs.{needs}
 use Rattle.cycle.proofs.decode.Statement.{statement}
 use Rattle.cycle.proofs.decode.Tie as tie
@@ -9,10 +9,10 @@ use Rattle.cycle.proofs.decode.Reads as reads
 use Rattle.cycle.proofs.decode.Lts as lts
 use Rattle.cycle.proofs.address.Reads as address-reads
 use Rattle.cycle.proofs.is_fetch_violation.Reads as is-fetch-violation-reads
-use Rattle.cycle.proofs.operate.Reads as operate-reads
+use Rattle.cycle.proofs.execute_instruction.Reads as execute-instruction-reads
 use Rattle.cycle.proofs.raise_ic.Reads as raise-ic-reads
 use Rattle.machine.proofs.Instruction.of_word.Reads as of-word-reads
-use Rattle.row.proofs.set_pending.Reads as set-pending-reads
+use Rattle.control_row.proofs.set_pending.Reads as set-pending-reads
 
 -- src/lib.rt:263:8
 is-fetch-violation-requires : tie.Need-is-fetch-violation-requires
@@ -43,8 +43,8 @@ set-pending-requires : tie.Need-set-pending-requires
 set-pending-requires c κs = search needs
 
 -- src/lib.rt:271:5
-operate-requires : tie.Need-operate-requires
-operate-requires c κs = search needs
+execute-instruction-requires : tie.Need-execute-instruction-requires
+execute-instruction-requires c κs = search needs
 
 -- src/lib.rt:250:1
 same-length : tie.Need-same-length
@@ -56,7 +56,7 @@ same-length-2 c = search needs
 
 -- src/lib.rt:250:1
 returns-2 : tie.Need-returns-2
-returns-2 c = (c .before .before .before .before .operate .ensures .0 ∙ decode-passed _ _ _ _ _ _ _ (c .before .before .before .before .before .before .before .before .before .before .before .before .before .before .before .before .before .before .before .before .before .before .before .pre .0) (sym (c .before .before .before .before .before .before .before .before .before .before .before .before .before .before .before .before .before .before .is-fetch-violation .ensures .0) ∙ c .before .before .before .before .before .before .before .before .before .before .before .before .before .before .before .before .before .if1 .left) (rw (c .before .before .before .before .before .before .before .before .before .before .before .raise-ic2 .ensures .0, c .before .before .before .before .before .before .before .before .before .before .before .before .before .before .before .before .before .before .is-fetch-violation .ensures .1 .0) at (c .before .before .before .before .before .before .before .before .before .set-pending .ensures .0)) (c .before .before .before .before .before .before .before .before .before .before .before .before .before .before .before .before .of-word .ensures) (rw (c .before .before .before .before .before .before .before .before .before .before .before .before .before .before .before .before .before .before .is-fetch-violation .ensures .1 .0) at (c .before .before .before .before .before .before .before .before .before .before .before .before .before .address .ensures .0)), (search needs, search needs))
+returns-2 c = (c .before .before .before .before .execute-instruction .ensures .0 ∙ decode-passed _ _ _ _ _ _ _ (c .before .before .before .before .before .before .before .before .before .before .before .before .before .before .before .before .before .before .before .before .before .before .before .pre .0) (sym (c .before .before .before .before .before .before .before .before .before .before .before .before .before .before .before .before .before .before .is-fetch-violation .ensures .0) ∙ c .before .before .before .before .before .before .before .before .before .before .before .before .before .before .before .before .before .if1 .left) (rw (c .before .before .before .before .before .before .before .before .before .before .before .raise-ic2 .ensures .0, c .before .before .before .before .before .before .before .before .before .before .before .before .before .before .before .before .before .before .is-fetch-violation .ensures .1 .0) at (c .before .before .before .before .before .before .before .before .before .set-pending .ensures .0)) (c .before .before .before .before .before .before .before .before .before .before .before .before .before .before .before .before .of-word .ensures) (rw (c .before .before .before .before .before .before .before .before .before .before .before .before .before .before .before .before .before .before .is-fetch-violation .ensures .1 .0) at (c .before .before .before .before .before .before .before .before .before .before .before .before .before .address .ensures .0)), (search needs, search needs))
 
 pub decode-spec : {M : Type 1} → statement M
 decode-spec =
@@ -69,7 +69,7 @@ decode-spec =
     address-requires
     raise-ic-requires-2
     set-pending-requires
-    operate-requires
+    execute-instruction-requires
     same-length
     same-length-2
     returns-2)

@@ -1,4 +1,4 @@
-use Rattle.running.specs.Cycle.{effectiveAddress}
+use Rattle.definition_runs.specs.Cycle.{effectiveAddress}
 use borrow.Author.Tests.{eq-eqb, ne-eqb}
 use borrow.Author.Needs.{needs}
 use Rattle.cycle.proofs.effective_address.Statement.{statement}

@@ -1,4 +1,4 @@
-use Rattle.running.specs.Cycle.{enter}
+use Rattle.definition_runs.specs.Cycle.{enter}
 use Rattle.cycle.proofs.Fields.{entry-fields}
 use borrow.Author.Needs.{needs}
 use Rattle.cycle.proofs.enter.Statement.{statement}

@@ -1,5 +1,5 @@
 use Rattle.cycle.proofs.Steps.{fetch-ending}
-use Rattle.running.specs.Cycle.{fetch}
+use Rattle.definition_runs.specs.Cycle.{fetch}
 use borrow.Author.Needs.{needs}
 use Rattle.cycle.proofs.fetch.Statement.{statement}
 use Rattle.cycle.proofs.fetch.Tie as tie
@@ -8,7 +8,7 @@ use Rattle.cycle.proofs.fetch.Lts as lts
 use Rattle.cycle.proofs.decode.Reads as decode-reads
 use Rattle.cycle.proofs.fetched.Reads as fetched-reads
 use Rattle.cycle.proofs.is_fetch_absent.Reads as is-fetch-absent-reads
-use Rattle.row.proofs.ic.Reads as ic-reads
+use Rattle.control_row.proofs.ic.Reads as ic-reads
 
 -- src/lib.rt:303:9
 ic-requires : tie.Need-ic-requires

@@ -2,7 +2,7 @@ use Prim.Native.Nat.{_≤_, _-_}
 use mathlib.Core.Path.{_≡_, refl}
 use native.Mathlib.Omega.{arith}
 use borrow.Author.Needs.{needs}
-use Rattle.running.specs.Cycle.{firstRequest}
+use Rattle.definition_runs.specs.Cycle.{firstRequest}
 use Rattle.cycle.proofs.Lines.{request-step}
 use Rattle.cycle.proofs.first_request.Statement.{statement}
 use Rattle.cycle.proofs.first_request.Tie as tie

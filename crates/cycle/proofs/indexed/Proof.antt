@@ -1,4 +1,4 @@
-use Rattle.running.specs.Cycle.{indexed}
+use Rattle.definition_runs.specs.Cycle.{indexed}
 use borrow.Author.Tests.{eq-eqb, ne-eqb}
 use borrow.Author.Needs.{needs}
 use Rattle.cycle.proofs.indexed.Statement.{statement}

@@ -1,4 +1,4 @@
-use Rattle.running.specs.Cycle.{indirectAbsent}
+use Rattle.definition_runs.specs.Cycle.{indirectAbsent}
 use borrow.Author.Tests.{eq-eqb, ne-eqb}
 use borrow.Author.Needs.{needs}
 use Rattle.cycle.proofs.is_indirect_absent.Statement.{statement}

@@ -1,4 +1,4 @@
-use Rattle.running.specs.Cycle.{requested}
+use Rattle.definition_runs.specs.Cycle.{requested}
 use borrow.Author.Tests.{eq-eqb, ne-eqb}
 use borrow.Author.Needs.{needs}
 use Rattle.cycle.proofs.is_requested.Statement.{statement}

@@ -1,4 +1,4 @@
-use Rattle.running.specs.Cycle.{relative}
+use Rattle.definition_runs.specs.Cycle.{relative}
 use borrow.Author.Tests.{lt-ltb, le-ltb}
 use borrow.Author.Needs.{needs}
 use Rattle.cycle.proofs.relative.Statement.{statement}

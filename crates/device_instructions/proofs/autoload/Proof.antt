@@ -1,5 +1,5 @@
 use denote.Ref.{now}
-use Rattle.channel.specs.Row.{channelAt}
+use Rattle.channel_row.specs.Row.{channelAt}
 use Rattle.device_instructions.proofs.AutoloadLaws.{loaded, loaded-nowhere}
 use mathlib.Core.Path.{sym, _∙_}
 use borrow.Author.Needs.{needs}

@@ -1,8 +1,8 @@
 use Rattle.device_instructions.proofs.AutoloadLaws.{any-register, autoload-in-task}
-use Rattle.definition.specs.MicroOps.{performDevice}
-use Rattle.definition.specs.Meaning.{deviceMeaning}
-use Rattle.definition.specs.Codes.{executingDevice}
-use Rattle.definition.specs.Machine.{resetSystem}
+use Rattle.definition_instructions.specs.MicroOps.{executeDeviceOperation}
+use Rattle.definition_instructions.specs.Meaning.{deviceMeaning}
+use Rattle.definition_instructions.specs.Codes.{executeDevice}
+use Rattle.definition_instructions.specs.Machine.{resetSystem}
 use mathlib.Core.Path.{sym, _∙_}
 use borrow.Author.Needs.{needs}
 use Rattle.device_instructions.proofs.aw.Statement.{statement}
@@ -26,7 +26,7 @@ same-length : tie.Need-same-length
 same-length c = search needs
 
 returns-2 : tie.Need-returns-2
-unfolding executingDevice performDevice deviceMeaning
+unfolding executeDevice executeDeviceOperation deviceMeaning
 returns-2 c =
     (rw (← (c .before .before .before .before .before .before .before .has-four .ensures), c .before .before .before .before .before .before .if2 .taken, ← (c .before .before .before .before .before .before .before .before .before .before .is-task .ensures), c .before .before .before .before .before .before .before .before .before .if1 .left, any-register _ _ _ _, ← (c .before .before .autoload .ensures .0)), (search needs, search needs))
 
@@ -40,7 +40,7 @@ same-length-2 : tie.Need-same-length-2
 same-length-2 c = search needs
 
 returns-3 : tie.Need-returns-3
-unfolding executingDevice performDevice deviceMeaning resetSystem
+unfolding executeDevice executeDeviceOperation deviceMeaning resetSystem
 returns-3 c =
     (rw (← (c .before .before .before .before .before .before .before .has-four .ensures), c .before .before .before .before .before .before .if2 .left, ← (c .before .before .before .before .before .before .before .before .before .before .is-task .ensures), c .before .before .before .before .before .before .before .before .before .if1 .left, ← (rw (c .before .before .before .before .ic .ensures) at (c .before .before .put-word .ensures))), (search needs, search needs))
 

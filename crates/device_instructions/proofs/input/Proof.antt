@@ -1,4 +1,4 @@
-use Rattle.definition.specs.Channel.{deviceBuffer}
+use Rattle.definition_instructions.specs.Channel.{deviceBuffer}
 use borrow.Author.Needs.{needs}
 use Rattle.device_instructions.proofs.input.Statement.{statement}
 use Rattle.device_instructions.proofs.input.Tie as tie

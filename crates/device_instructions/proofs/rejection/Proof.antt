@@ -1,5 +1,5 @@
 use borrow.Author.Needs.{needs}
-use Rattle.definition.specs.Meaning.{rejection}
+use Rattle.definition_instructions.specs.Meaning.{rejection}
 use Rattle.device_instructions.proofs.rejection.Statement.{statement}
 use Rattle.device_instructions.proofs.rejection.Tie as tie
 

@@ -1,4 +1,4 @@
-use Rattle.definition.specs.Channel.{shiftedIn}
+use Rattle.definition_instructions.specs.Channel.{shiftedIn}
 use borrow.Author.Needs.{needs}
 use Rattle.device_instructions.proofs.shift_in.Statement.{statement}
 use Rattle.device_instructions.proofs.shift_in.Tie as tie

@@ -1,6 +1,6 @@
-use Rattle.definition.specs.Codes.{executing}
-use Rattle.definition.specs.Meaning.{meaning}
-use Rattle.definition.specs.MicroOps.{microStep, microSteps, monitorStep, monitorSteps, perform}
+use Rattle.definition_instructions.specs.Codes.{execute}
+use Rattle.definition_instructions.specs.Meaning.{meaning}
+use Rattle.definition_instructions.specs.MicroOps.{microStep, microSteps, monitorStep, monitorSteps, executeOperation}
 use borrow.Author.Needs.{needs}
 use Rattle.floating_instructions.proofs.fa.Statement.{statement}
 use Rattle.floating_instructions.proofs.fa.Tie as tie
@@ -18,7 +18,7 @@ same-length : tie.Need-same-length
 same-length c = search needs
 
 returns : tie.Need-returns
-unfolding executing perform meaning microSteps microStep monitorSteps monitorStep
+unfolding execute executeOperation meaning microSteps microStep monitorSteps monitorStep
 returns c = (rw (← (c .before .before .before .clear-flags .ensures .0), ← (c .before .is-absent .ensures), c .if1 .taken), search needs)
 
 previous-register-requires : tie.Need-previous-register-requires
@@ -55,7 +55,7 @@ same-length-2 : tie.Need-same-length-2
 same-length-2 c = search needs
 
 returns-2 : tie.Need-returns-2
-unfolding executing perform meaning microSteps microStep monitorSteps monitorStep
+unfolding execute executeOperation meaning microSteps microStep monitorSteps monitorStep
 returns-2 c = (rw (← (c .before .before .before .before .before .before .before .before .before .before .before .before .before .before .before .before .before .before .before .before .before .before .before .before .clear-flags .ensures .0), ← (c .before .before .before .before .before .before .before .before .before .before .before .before .before .before .before .before .before .before .before .before .before .before .is-absent .ensures), c .before .before .before .before .before .before .before .before .before .before .before .before .before .before .before .before .before .before .before .before .before .if1 .left, ← (c .before .before .before .before .before .before .before .before .before .before .before .before .before .before .before .before .before .before .before .before .previous-register .ensures), ← (c .before .before .before .before .before .before .before .before .before .before .before .before .before .before .before .before .before .before .word-at .ensures .0), ← (c .before .before .before .before .before .before .before .before .before .before .before .before .before .before .before .before .word-at2 .ensures .0), ← (c .before .before .before .before .before .before .before .before .before .before .before .before .before .before .before .first-word .ensures), ← (c .before .before .before .before .before .before .before .before .before .before .before .before .before .word-at3 .ensures .0), ← (c .before .before .before .before .before .before .before .before .before .before .before .word-at4 .ensures .0), ← (rw (c .before .before .before .before .before .before .before .before .before .before .before .before .before .before .before .before .before .before .before .before .before .before .before .before .before .before .ex .ensures) at (c .before .before .before .before .before .before .before .before .before .before .add .ensures)), ← (c .before .before .before .before .before .before .before .before .note-overflow .ensures .0), ← (c .before .before .before .before .before .before .put-long .ensures), ← (c .before .before .put-long2 .ensures)), search needs)
 
 pub fa-spec : {M : Type 1} → statement M

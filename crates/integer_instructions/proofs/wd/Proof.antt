@@ -1,6 +1,6 @@
-use Rattle.definition.specs.Codes.{executing}
-use Rattle.definition.specs.Meaning.{meaning}
-use Rattle.definition.specs.MicroOps.{microStep, microSteps, monitorStep, monitorSteps, perform}
+use Rattle.definition_instructions.specs.Codes.{execute}
+use Rattle.definition_instructions.specs.Meaning.{meaning}
+use Rattle.definition_instructions.specs.MicroOps.{microStep, microSteps, monitorStep, monitorSteps, executeOperation}
 use borrow.Author.Needs.{needs}
 use Rattle.integer_instructions.proofs.wd.Statement.{statement}
 use Rattle.integer_instructions.proofs.wd.Tie as tie
@@ -15,7 +15,7 @@ same-length : tie.Need-same-length
 same-length c = search needs
 
 returns : tie.Need-returns
-unfolding executing perform meaning microSteps microStep monitorSteps monitorStep
+unfolding execute executeOperation meaning microSteps microStep monitorSteps monitorStep
 returns c = (rw (← (c .before .before .before .clear-flags .ensures .0), ← (c .before .is-absent .ensures), c .if1 .taken), search needs)
 
 previous-register-requires : tie.Need-previous-register-requires
@@ -46,7 +46,7 @@ same-length-2 : tie.Need-same-length-2
 same-length-2 c = search needs
 
 returns-2 : tie.Need-returns-2
-unfolding executing perform meaning microSteps microStep monitorSteps monitorStep
+unfolding execute executeOperation meaning microSteps microStep monitorSteps monitorStep
 returns-2 c = (rw (← (c .before .before .before .before .before .before .before .before .before .before .before .before .before .before .before .before .before .before .before .before .before .clear-flags .ensures .0), ← (c .before .before .before .before .before .before .before .before .before .before .before .before .before .before .before .before .before .before .before .is-absent .ensures), c .before .before .before .before .before .before .before .before .before .before .before .before .before .before .before .before .before .before .if1 .left, ← (c .before .before .before .before .before .before .before .before .before .before .before .before .before .before .before .before .before .previous-register .ensures), ← (c .before .before .before .before .before .before .before .before .before .before .before .before .before .before .before .word-at .ensures .0), ← (c .before .before .before .before .before .before .before .before .before .before .before .before .before .word-at2 .ensures .0), ← (c .before .before .before .before .before .before .before .before .before .before .before .word-at3 .ensures .0), ← (c .before .before .before .before .before .before .before .before .before .before .divide .ensures .0), ← (c .before .before .before .before .before .before .before .before .note-overflow .ensures .0), ← (c .before .before .before .before .before .before .put-word .ensures), ← (c .before .before .put-word2 .ensures)), search needs)
 
 pub wd-spec : {M : Type 1} → statement M

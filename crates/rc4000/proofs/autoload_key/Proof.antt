@@ -1,5 +1,5 @@
 use borrow.Author.Tests.{le-leb}
-use Rattle.definition.specs.Channel.{fourLeft}
+use Rattle.definition_instructions.specs.Channel.{fourLeft}
 use Rattle.rc4000.proofs.Laws.{key-in-reset, key-short, key-elsewhere}
 use borrow.Author.Needs.{needs}
 use Rattle.rc4000.proofs.autoload_key.Statement.{statement}

@@ -1,6 +1,6 @@
-use Rattle.running.specs.Keys.{autoloadRecord}
+use Rattle.definition_runs.specs.Keys.{autoloadRecord}
 use borrow.Author.Needs.{needs}
-use Rattle.running.specs.Keys.{autoloadRecord}
+use Rattle.definition_runs.specs.Keys.{autoloadRecord}
 use Rattle.rc4000.proofs.autoload_record.Statement.{statement}
 use Rattle.rc4000.proofs.autoload_record.Tie as tie
 

@@ -1,4 +1,4 @@
-use Rattle.running.specs.Keys.{pressingReset}
+use Rattle.definition_runs.specs.Keys.{pressingReset}
 use borrow.Author.Needs.{needs}
 use Rattle.rc4000.proofs.press_reset.Statement.{statement}
 use Rattle.rc4000.proofs.press_reset.Tie as tie

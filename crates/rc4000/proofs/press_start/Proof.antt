@@ -1,4 +1,4 @@
-use Rattle.running.specs.Keys.{pressingStart}
+use Rattle.definition_runs.specs.Keys.{pressingStart}
 use borrow.Author.Needs.{needs}
 use Rattle.rc4000.proofs.press_start.Statement.{statement}
 use Rattle.rc4000.proofs.press_start.Tie as tie

@@ -1,5 +1,5 @@
-use Rattle.definition.specs.Machine.{resetSystem}
-use Rattle.running.specs.Keys.{resetKey}
+use Rattle.definition_instructions.specs.Machine.{resetSystem}
+use Rattle.definition_runs.specs.Keys.{resetKey}
 use borrow.Author.Needs.{needs}
 use Rattle.rc4000.proofs.reset_key.Statement.{statement}
 use Rattle.rc4000.proofs.reset_key.Tie as tie

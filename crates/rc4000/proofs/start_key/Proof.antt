@@ -1,4 +1,4 @@
-use Rattle.running.specs.Keys.{startKey}
+use Rattle.definition_runs.specs.Keys.{startKey}
 use borrow.Author.Needs.{needs}
 use Rattle.rc4000.proofs.start_key.Statement.{statement}
 use Rattle.rc4000.proofs.start_key.Tie as tie

@@ -1,4 +1,4 @@
-use Rattle.running.specs.Keys.{startRecord}
+use Rattle.definition_runs.specs.Keys.{startRecord}
 use borrow.Author.Needs.{needs}
 use Rattle.rc4000.proofs.start_record.Statement.{statement}
 use Rattle.rc4000.proofs.start_record.Tie as tie

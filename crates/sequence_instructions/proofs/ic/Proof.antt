@@ -1,6 +1,6 @@
-use Rattle.definition.specs.Codes.{executing}
-use Rattle.definition.specs.Meaning.{meaning}
-use Rattle.definition.specs.MicroOps.{microStep, microSteps, monitorStep, monitorSteps, perform}
+use Rattle.definition_instructions.specs.Codes.{execute}
+use Rattle.definition_instructions.specs.Meaning.{meaning}
+use Rattle.definition_instructions.specs.MicroOps.{microStep, microSteps, monitorStep, monitorSteps, executeOperation}
 use borrow.Author.Needs.{needs}
 use Rattle.sequence_instructions.proofs.ic.Statement.{statement}
 use Rattle.sequence_instructions.proofs.ic.Tie as tie
@@ -9,7 +9,7 @@ is-task-requires : tie.Need-is-task-requires
 is-task-requires c κs = search needs
 
 returns : tie.Need-returns
-unfolding executing perform meaning microSteps microStep monitorSteps monitorStep
+unfolding execute executeOperation meaning microSteps microStep monitorSteps monitorStep
 returns c = (rw (← (c .before .is-task .ensures), c .if1 .taken), search needs)
 
 ir-requires : tie.Need-ir-requires
@@ -22,7 +22,7 @@ set-ir-requires : tie.Need-set-ir-requires
 set-ir-requires c κs = search needs
 
 returns-2 : tie.Need-returns-2
-unfolding executing perform meaning microSteps microStep monitorSteps monitorStep
+unfolding execute executeOperation meaning microSteps microStep monitorSteps monitorStep
 returns-2 c = (rw (← (c .before .before .before .before .before .before .is-task .ensures), c .before .before .before .before .before .if1 .left, ← (rw (c .before .before .before .ir .ensures) at (c .before .before .clear24 .ensures .0)), ← (c .set-ir .ensures .0)), search needs)
 
 pub ic-spec : {M : Type 1} → statement M

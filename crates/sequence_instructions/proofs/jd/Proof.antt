@@ -1,6 +1,6 @@
-use Rattle.definition.specs.Codes.{executing}
-use Rattle.definition.specs.Meaning.{meaning}
-use Rattle.definition.specs.MicroOps.{microStep, microSteps, monitorStep, monitorSteps, perform}
+use Rattle.definition_instructions.specs.Codes.{execute}
+use Rattle.definition_instructions.specs.Meaning.{meaning}
+use Rattle.definition_instructions.specs.MicroOps.{microStep, microSteps, monitorStep, monitorSteps, executeOperation}
 use borrow.Author.Needs.{needs}
 use Rattle.sequence_instructions.proofs.jd.Statement.{statement}
 use Rattle.sequence_instructions.proofs.jd.Tie as tie
@@ -9,7 +9,7 @@ is-task-requires : tie.Need-is-task-requires
 is-task-requires c κs = search needs
 
 returns : tie.Need-returns
-unfolding executing perform meaning microSteps microStep monitorSteps monitorStep
+unfolding execute executeOperation meaning microSteps microStep monitorSteps monitorStep
 returns c = (rw (← (c .before .is-task .ensures), c .if1 .taken), search needs)
 
 is-absent-requires : tie.Need-is-absent-requires
@@ -19,7 +19,7 @@ same-length : tie.Need-same-length
 same-length c = search needs
 
 returns-2 : tie.Need-returns-2
-unfolding executing perform meaning microSteps microStep monitorSteps monitorStep
+unfolding execute executeOperation meaning microSteps microStep monitorSteps monitorStep
 returns-2 c = (rw (← (c .before .before .before .before .is-task .ensures), c .before .before .before .if1 .left, ← (c .before .is-absent .ensures), c .if2 .taken), search needs)
 
 set-enabled-requires : tie.Need-set-enabled-requires
@@ -41,7 +41,7 @@ same-length-2 : tie.Need-same-length-2
 same-length-2 c = search needs
 
 returns-3 : tie.Need-returns-3
-unfolding executing perform meaning microSteps microStep monitorSteps monitorStep
+unfolding execute executeOperation meaning microSteps microStep monitorSteps monitorStep
 returns-3 c = (rw (← (c .before .before .before .before .before .before .before .before .before .before .before .before .before .before .is-task .ensures), c .before .before .before .before .before .before .before .before .before .before .before .before .before .if1 .left, ← (c .before .before .before .before .before .before .before .before .before .before .before .is-absent .ensures), c .before .before .before .before .before .before .before .before .before .before .if2 .left, ← (c .before .before .before .before .before .before .before .before .set-enabled .ensures .0), ← (rw (c .before .before .before .before .before .before .ic .ensures) at (c .before .before .before .before .put-link .ensures)), ← (c .set-ic .ensures .0)), search needs)
 
 pub jd-spec : {M : Type 1} → statement M

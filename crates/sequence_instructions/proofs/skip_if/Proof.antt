@@ -1,4 +1,4 @@
-use Rattle.definition.specs.MicroOps.{skipped}
+use Rattle.definition_instructions.specs.MicroOps.{skipped}
 use borrow.Author.Needs.{needs}
 use Rattle.sequence_instructions.proofs.skip_if.Statement.{statement}
 use Rattle.sequence_instructions.proofs.skip_if.Tie as tie

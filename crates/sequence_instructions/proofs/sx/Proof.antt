@@ -1,6 +1,6 @@
-use Rattle.definition.specs.Codes.{executing}
-use Rattle.definition.specs.Meaning.{meaning}
-use Rattle.definition.specs.MicroOps.{microStep, microSteps, monitorStep, monitorSteps, perform}
+use Rattle.definition_instructions.specs.Codes.{execute}
+use Rattle.definition_instructions.specs.Meaning.{meaning}
+use Rattle.definition_instructions.specs.MicroOps.{microStep, microSteps, monitorStep, monitorSteps, executeOperation}
 use borrow.Author.Needs.{needs}
 use Rattle.sequence_instructions.proofs.sx.Statement.{statement}
 use Rattle.sequence_instructions.proofs.sx.Tie as tie
@@ -15,7 +15,7 @@ skip-if-requires : tie.Need-skip-if-requires
 skip-if-requires c κs = search needs
 
 returns : tie.Need-returns
-unfolding executing perform meaning microSteps microStep monitorSteps monitorStep
+unfolding execute executeOperation meaning microSteps microStep monitorSteps monitorStep
 returns c = (rw (← (rw (c .before .before .before .ex .ensures) at (c .before .before .bits-zero .ensures)), ← (c .skip-if .ensures .0)), search needs)
 
 pub sx-spec : {M : Type 1} → statement M

@@ -1,6 +1,6 @@
-use Rattle.definition.specs.Codes.{executing}
-use Rattle.definition.specs.Meaning.{meaning}
-use Rattle.definition.specs.MicroOps.{microStep, microSteps, monitorStep, monitorSteps, perform}
+use Rattle.definition_instructions.specs.Codes.{execute}
+use Rattle.definition_instructions.specs.Meaning.{meaning}
+use Rattle.definition_instructions.specs.MicroOps.{microStep, microSteps, monitorStep, monitorSteps, executeOperation}
 use borrow.Author.Needs.{needs}
 use Rattle.transfer_instructions.proofs.bl.Statement.{statement}
 use Rattle.transfer_instructions.proofs.bl.Tie as tie
@@ -12,14 +12,14 @@ same-length : tie.Need-same-length
 same-length c = search needs
 
 returns : tie.Need-returns
-unfolding executing perform meaning microSteps microStep monitorSteps monitorStep
+unfolding execute executeOperation meaning microSteps microStep monitorSteps monitorStep
 returns c = (rw (← (c .before .is-absent .ensures), c .if1 .taken), search needs)
 
 byte-at-requires : tie.Need-byte-at-requires
 byte-at-requires c κs = search needs
 
-extend-requires : tie.Need-extend-requires
-extend-requires c κs = search needs
+signed-byte-requires : tie.Need-signed-byte-requires
+signed-byte-requires c κs = search needs
 
 put-word-requires : tie.Need-put-word-requires
 put-word-requires c κs = search needs
@@ -28,8 +28,8 @@ same-length-2 : tie.Need-same-length-2
 same-length-2 c = search needs
 
 returns-2 : tie.Need-returns-2
-unfolding executing perform meaning microSteps microStep monitorSteps monitorStep
-returns-2 c = (rw (← (c .before .before .before .before .before .before .before .before .is-absent .ensures), c .before .before .before .before .before .before .before .if1 .left, ← (c .before .before .before .before .before .byte-at .ensures .0), ← (c .before .before .before .before .extend .ensures .0), ← (c .before .before .put-word .ensures)), search needs)
+unfolding execute executeOperation meaning microSteps microStep monitorSteps monitorStep
+returns-2 c = (rw (← (c .before .before .before .before .before .before .before .before .is-absent .ensures), c .before .before .before .before .before .before .before .if1 .left, ← (c .before .before .before .before .before .byte-at .ensures .0), ← (c .before .before .before .before .signed-byte .ensures .0), ← (c .before .before .put-word .ensures)), search needs)
 
 pub bl-spec : {M : Type 1} → statement M
 bl-spec =
@@ -39,7 +39,7 @@ bl-spec =
     same-length
     returns
     byte-at-requires
-    extend-requires
+    signed-byte-requires
     put-word-requires
     same-length-2
     returns-2)

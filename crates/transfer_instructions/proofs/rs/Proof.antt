@@ -1,6 +1,6 @@
-use Rattle.definition.specs.Codes.{executing}
-use Rattle.definition.specs.Meaning.{meaning}
-use Rattle.definition.specs.MicroOps.{microStep, microSteps, monitorStep, monitorSteps, perform}
+use Rattle.definition_instructions.specs.Codes.{execute}
+use Rattle.definition_instructions.specs.Meaning.{meaning}
+use Rattle.definition_instructions.specs.MicroOps.{microStep, microSteps, monitorStep, monitorSteps, executeOperation}
 use borrow.Author.Needs.{needs}
 use Rattle.transfer_instructions.proofs.rs.Statement.{statement}
 use Rattle.transfer_instructions.proofs.rs.Tie as tie
@@ -12,7 +12,7 @@ same-length : tie.Need-same-length
 same-length c = search needs
 
 returns : tie.Need-returns
-unfolding executing perform meaning microSteps microStep monitorSteps monitorStep
+unfolding execute executeOperation meaning microSteps microStep monitorSteps monitorStep
 returns c = (rw (← (c .before .is-absent .ensures), c .if1 .taken), search needs)
 
 is-violation-requires : tie.Need-is-violation-requires
@@ -22,7 +22,7 @@ same-length-2 : tie.Need-same-length-2
 same-length-2 c = search needs
 
 returns-2 : tie.Need-returns-2
-unfolding executing perform meaning microSteps microStep monitorSteps monitorStep
+unfolding execute executeOperation meaning microSteps microStep monitorSteps monitorStep
 returns-2 c = (rw (← (c .before .before .before .before .before .is-absent .ensures), c .before .before .before .before .if1 .left, ← (c .before .is-violation .ensures), c .if2 .taken), search needs)
 
 word-at-requires : tie.Need-word-at-requires
@@ -35,7 +35,7 @@ same-length-3 : tie.Need-same-length-3
 same-length-3 c = search needs
 
 returns-3 : tie.Need-returns-3
-unfolding executing perform meaning microSteps microStep monitorSteps monitorStep
+unfolding execute executeOperation meaning microSteps microStep monitorSteps monitorStep
 returns-3 c = (rw (← (c .before .before .before .before .before .before .before .before .before .before .before .is-absent .ensures), c .before .before .before .before .before .before .before .before .before .before .if1 .left, ← (c .before .before .before .before .before .before .before .is-violation .ensures), c .before .before .before .before .before .before .if2 .left, ← (c .before .before .before .before .word-at .ensures .0), ← (c .before .before .put-word .ensures)), search needs)
 
 pub rs-spec : {M : Type 1} → statement M

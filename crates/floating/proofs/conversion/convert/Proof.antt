@@ -3,8 +3,8 @@ use borrow.Author.Needs.{needs}
 use Rattle.floating.proofs.conversion.convert.Statement.{statement}
 use Rattle.floating.proofs.conversion.convert.Tie as tie
 
-signed24-requires : tie.Need-signed24-requires
-signed24-requires c κs = search needs
+signed-byte-requires : tie.Need-signed-byte-requires
+signed-byte-requires c κs = search needs
 
 sub-n : tie.Need-sub-n
 sub-n c = search needs
@@ -35,7 +35,7 @@ pub convert-spec : {M : Type 1} → statement M
 convert-spec =
     tie.close
     (tie.spec
-    signed24-requires
+    signed-byte-requires
     sub-n
     add-n
     sub-n-2

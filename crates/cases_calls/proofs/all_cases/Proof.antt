@@ -1,0 +1,56 @@
+use Prim.Native.Nat.{_-_, _≤_}
+use mathlib.Core.Path.{_≡_}
+use lib.ListN.{length}
+use borrow.Author.Needs.{needs}
+use Rattle.cases_calls.proofs.all_cases.Statement.{statement}
+use Rattle.cases_calls.proofs.all_cases.Tie as tie
+
+abbrev Inv-loop : tie.InvT-loop
+Inv-loop store₀ characters₀ typing₀ count i₀ store characters typing i =
+    (i ≤ count) × (length store ≡ length store₀) × (length characters ≡ length characters₀) × (length typing ≡ length typing₀)
+
+abbrev μ-loop : tie.MeasureT-loop
+μ-loop store₀ characters₀ typing₀ count i₀ store characters typing i = count - i
+
+loop-holds : tie.Need-loop-holds Inv-loop μ-loop
+loop-holds c = search needs
+
+one-case-requires : tie.Need-one-case-requires Inv-loop μ-loop
+one-case-requires c κs = search needs
+
+add-i : tie.Need-add-i Inv-loop μ-loop
+add-i c = search needs
+
+loop-less : tie.Need-loop-less Inv-loop μ-loop
+loop-less c = search needs
+
+loop-again : tie.Need-loop-again Inv-loop μ-loop
+loop-again c = search needs
+
+same-length : tie.Need-same-length Inv-loop μ-loop
+same-length c = search needs
+
+same-length-2 : tie.Need-same-length-2 Inv-loop μ-loop
+same-length-2 c = search needs
+
+same-length-3 : tie.Need-same-length-3 Inv-loop μ-loop
+same-length-3 c = search needs
+
+returns : tie.Need-returns Inv-loop μ-loop
+returns c = search needs
+
+pub all-cases-spec : {M : Type 1} → statement M
+all-cases-spec =
+    tie.close
+    (tie.spec
+    Inv-loop
+    μ-loop
+    loop-holds
+    one-case-requires
+    add-i
+    loop-less
+    loop-again
+    same-length
+    same-length-2
+    same-length-3
+    returns)

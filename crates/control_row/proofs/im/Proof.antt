@@ -1,0 +1,14 @@
+use Rattle.control_row.specs.Row.{controlAt}
+use borrow.Author.Needs.{needs}
+use Rattle.control_row.proofs.im.Statement.{statement}
+use Rattle.control_row.proofs.im.Tie as tie
+
+element-copy-out-result : tie.Need-element-copy-out-result
+element-copy-out-result c = search needs
+
+returns : tie.Need-returns
+unfolding controlAt
+returns c = search needs
+
+pub im-spec : {M : Type 1} → statement M
+im-spec = tie.close (tie.spec element-copy-out-result returns)

@@ -1,0 +1,14 @@
+use Rattle.control_row.specs.Row.{controlAt}
+use borrow.Author.Needs.{needs}
+use Rattle.control_row.proofs.pr.Statement.{statement}
+use Rattle.control_row.proofs.pr.Tie as tie
+
+element-copy-out-result : tie.Need-element-copy-out-result
+element-copy-out-result c = search needs
+
+returns : tie.Need-returns
+unfolding controlAt
+returns c = search needs
+
+pub pr-spec : {M : Type 1} → statement M
+pr-spec = tie.close (tie.spec element-copy-out-result returns)

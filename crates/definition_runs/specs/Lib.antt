@@ -1,0 +1,12 @@
+pub mod GenericRun
+pub mod Cycle
+pub mod Run
+pub mod Keys
+pub mod Lent
+pub mod Answers
+pub mod Promises
+pub mod Several
+pub mod Claims
+pub mod Opened
+pub mod Table
+pub mod Peripherals
