@@ -11,13 +11,29 @@ use Rattle.machine.specs.declared.Refusal.the-variants.{StoreSize, CellValue, C
 use Rattle.machine.specs.declared.Verdict.{Verdict}
 use Rattle.machine.specs.declared.Verdict.the-variants.{Accepted, Rejected}
 
+-- the cells of the largest store
+abbrev pub mostCells : ℕ
+mostCells = 8388608
+
+-- 2 ** 27: one more than the largest cell, a word with a key of 3 bits over it
+abbrev pub cellRange : ℕ
+cellRange = 134217728
+
+-- 2 ** 21: one more than the largest set of raised lines, bits 3 to 23
+abbrev pub lineRange : ℕ
+lineRange = 2097152
+
+-- 2 ** 16: one more than the largest budget
+abbrev pub budgetRange : ℕ
+budgetRange = 65536
+
 -- 1: fewer than 8 or more than 8,388,608 cells
 unfoldable pub sizeFits : ℕ → Bool
-sizeFits n = cond (ltb n 8) false (leb n 8388608)
+sizeFits n = cond (ltb n 8) false (leb n mostCells)
 
 -- 2: a cell of 134,217,728 or more
 unfoldable pub cellFits : ℕ → Bool
-cellFits x = ltb x 134217728
+cellFits x = ltb x cellRange
 
 unfoldable pub cellsFit : List ℕ → Bool
 unfolding cellFits
@@ -49,7 +65,7 @@ judgeMachine s c =
 
 -- 4: lines with bit 0, 1 or 2 set, or over 24 bits; 5: budget over 65,535
 abbrev pub judgeCall : Verdict → ℕ → ℕ → Verdict
-judgeCall Accepted l b = cond (ltb l 2097152) (cond (ltb b 65536) Accepted (Rejected Budget)) (Rejected Lines)
+judgeCall Accepted l b = cond (ltb l lineRange) (cond (ltb b budgetRange) Accepted (Rejected Budget)) (Rejected Lines)
 judgeCall (Rejected r) l b = Rejected r
 
 -- 13: a reader character over 63 or a device buffer register over 24 bits (document 02, E1)

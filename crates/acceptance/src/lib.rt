@@ -7,13 +7,22 @@ use machine::Refusal;
 use machine::Verdict;
 use registers::WORD_RANGE;
 
+// The cells of the largest store.
+pub const MOST_CELLS: usize = 8388608;
+// One more than the largest cell: a word with a key of 3 bits over it.
+pub const CELL_RANGE: u32 = 134217728;
+// One more than the largest set of raised lines, bits 3 to 23.
+const LINE_RANGE: u32 = 2097152;
+// One more than the largest budget.
+const BUDGET_RANGE: u32 = 65536;
+
 pub fn size_fits(n: usize) -> bool
     ensures { λ r. ⌜ r ≡ sizeFits n ⌝ }
 {
     if n < 8 {
         return false;
     }
-    n <= 8388608
+    n <= MOST_CELLS
 }
 
 // The whole store is looked at, so that the compiler can test several cells at once.
@@ -22,7 +31,7 @@ fn cells_fit(s: &[u32]) -> bool
 {
     let mut fit = true;
     for i in 0..s.len() {
-        if s[i] >= 134217728 {
+        if s[i] >= CELL_RANGE {
             fit = false;
         }
     }
@@ -42,55 +51,55 @@ fn state_fits(c: Control) -> bool
 pub fn control_fits(c: Control) -> bool
     ensures { λ r. ⌜ r ≡ controlFits c ⌝ }
 {
-    if c.ic < WORD_RANGE {
-        if c.ir < WORD_RANGE {
-            if c.im < WORD_RANGE {
-                if c.pending < WORD_RANGE {
-                    if c.pr < 128 {
-                        return false;
-                    }
-                    if c.pr < 256 {
-                        if c.ex < 8 {
-                            return state_fits(c);
-                        }
-                        return false;
-                    }
-                    return false;
-                }
-                return false;
-            }
-            return false;
-        }
+    if c.ic >= WORD_RANGE {
         return false;
     }
-    false
+    if c.ir >= WORD_RANGE {
+        return false;
+    }
+    if c.im >= WORD_RANGE {
+        return false;
+    }
+    if c.pending >= WORD_RANGE {
+        return false;
+    }
+    if c.pr < 128 {
+        return false;
+    }
+    if c.pr >= 256 {
+        return false;
+    }
+    if c.ex >= 8 {
+        return false;
+    }
+    state_fits(c)
 }
 
 pub fn judge_store(s: &[u32]) -> Verdict
     ensures { λ r. ⌜ r ≡ judgeStore (now (s .entry)) ⌝ }
 {
-    if size_fits(s.len()) {
-        if cells_fit(s) {
-            return Verdict::Accepted;
-        }
+    if !size_fits(s.len()) {
+        return Verdict::Rejected(Refusal::StoreSize);
+    }
+    if !cells_fit(s) {
         return Verdict::Rejected(Refusal::CellValue);
     }
-    Verdict::Rejected(Refusal::StoreSize)
+    Verdict::Accepted
 }
 
 pub fn judge_machine(s: &[u32], c: Control) -> Verdict
     ensures { λ r. ⌜ r ≡ judgeMachine (now (s .entry)) c ⌝ }
 {
-    if size_fits(s.len()) {
-        if cells_fit(s) {
-            if control_fits(c) {
-                return Verdict::Accepted;
-            }
-            return Verdict::Rejected(Refusal::ControlField);
-        }
+    if !size_fits(s.len()) {
+        return Verdict::Rejected(Refusal::StoreSize);
+    }
+    if !cells_fit(s) {
         return Verdict::Rejected(Refusal::CellValue);
     }
-    Verdict::Rejected(Refusal::StoreSize)
+    if !control_fits(c) {
+        return Verdict::Rejected(Refusal::ControlField);
+    }
+    Verdict::Accepted
 }
 
 // Tests 1 to 5 of a run.
@@ -100,13 +109,13 @@ fn judge_call(s: &[u32], c: Control, lines: u32, budget: u32) -> Verdict
     let v = judge_machine(s, c);
     match v {
         Verdict::Accepted => {
-            if lines < 2097152 {
-                if budget < 65536 {
-                    return Verdict::Accepted;
-                }
+            if lines >= LINE_RANGE {
+                return Verdict::Rejected(Refusal::Lines);
+            }
+            if budget >= BUDGET_RANGE {
                 return Verdict::Rejected(Refusal::Budget);
             }
-            Verdict::Rejected(Refusal::Lines)
+            Verdict::Accepted
         }
         Verdict::Rejected(r) => Verdict::Rejected(r),
     }
@@ -128,13 +137,13 @@ fn characters_fit(s: &[u8]) -> bool
 pub fn devices_fit(d: Devices, characters: &[u8]) -> bool
     ensures { λ r. ⌜ r ≡ devicesFit (d .reader) (d .typewriter) (now (characters .entry)) ⌝ }
 {
-    if d.reader < WORD_RANGE {
-        if d.typewriter < WORD_RANGE {
-            return characters_fit(characters);
-        }
+    if d.reader >= WORD_RANGE {
         return false;
     }
-    false
+    if d.typewriter >= WORD_RANGE {
+        return false;
+    }
+    characters_fit(characters)
 }
 
 // Test 13, after those that v tells of.
@@ -143,10 +152,10 @@ fn judge_devices(v: Verdict, d: Devices, characters: &[u8]) -> Verdict
 {
     match v {
         Verdict::Accepted => {
-            if devices_fit(d, characters) {
-                return Verdict::Accepted;
+            if !devices_fit(d, characters) {
+                return Verdict::Rejected(Refusal::Device);
             }
-            Verdict::Rejected(Refusal::Device)
+            Verdict::Accepted
         }
         Verdict::Rejected(r) => Verdict::Rejected(r),
     }

@@ -24,9 +24,9 @@ use Rattle.definition_runs.specs.Run.{runMachine}
 use Rattle.definition_runs.specs.Keys.{pressedBy, resetKey, startKey, autoloadKey, pressingReset, pressingStart, judgeAutoloadOf, pressingAutoload}
 use Rattle.definition_runs.specs.Lent as Lent
 use Rattle.definition_runs.specs.Lent.{machineLent, handedBack, runLent, KeyReturned, keyHandedBack, autoloadLent}
-use Rattle.definition_runs.specs.Promises.{refusedNumber}
-use Rattle.definition_runs.proofs.Promises.{refused-run, refused-only, refusal-numbers}
-use Rattle.definition_runs.proofs.Claims as keys
+use Rattle.definition_runs.specs.GenericRun.{refusedNumber}
+use Rattle.run_promises.proofs.Promises.{refused-run, refused-only, refusal-numbers}
+use Rattle.cycle_promises.proofs.Claims as keys
 use Rattle.tape.specs.Load.{judgeThen, judgeLoad, loadedBy, loading}
 use Rattle.capi.specs.declared.ControlRecord.{ControlRecord}
 use Rattle.capi.specs.Results.{flagsFit, controlIn, judgeFlags, runReturned, resultBy, autoloadedBy, runBy, keyBy, autoloadBy, loadBy, runCall, resetCall, startCall, autoloadCall, loadCall}

@@ -14,11 +14,12 @@ use Rattle.machine.specs.Fields.{inTask}
 use Rattle.machine.specs.declared.Fault.the-variants.{Privileged}
 use Rattle.machine.proofs.StoreLaws.{word-lt}
 use Rattle.acceptance.specs.Accept.{charactersFit, devicesFit}
+use Rattle.acceptance.proofs.Tests.{both}
 use Rattle.definition_instructions.specs.Machine.{Computer, Channel, Machine, machine, computerOf, connected, Effect, ok, fault, bind, reached, lifted}
 use Rattle.definition_instructions.specs.Channel.{deviceBuffer, taking, readFrom, typingOn, writeTo}
 use Rattle.definition_instructions.specs.MicroOps.{DeviceOp, monitor, senseDevice, controlDevice, readDevice, writeDevice, DeviceOperation, peripheral, resetting, monitorStep, deviceStep, deviceSteps, executeDeviceOperation}
 use Rattle.definition_instructions.proofs.MicroLaws.{reach-cond, reach-bind}
-use Rattle.definition_instructions.proofs.Validity.{Valid, Live, both, live-put, live-step, valid-reset}
+use Rattle.definition_instructions.proofs.Validity.{Valid, Live, live-put, live-step, valid-reset}
 
 -- ---- an instruction without devices leaves the channel
 

@@ -17,6 +17,7 @@ use Rattle.machine.specs.Fields.{inTask, withIC, withIR, withIM, withPending, w
 use Rattle.machine.specs.Records.{resetRecord}
 use Rattle.machine.proofs.StoreLaws.{length-putWord, length-putKey, Cells, cells-putWord, cells-putKey}
 use Rattle.acceptance.specs.Accept.{sizeFits, cellsFit, stateFits, controlFits, judgeMachine}
+use Rattle.acceptance.proofs.Tests.{both, neither, passed}
 use Rattle.definition_instructions.specs.Machine.{Computer, computer, reached, resetSystem}
 use Rattle.definition_instructions.specs.MicroOps.{MonitorOp, plain, setKey, setPR, setIM, setIR, setEnabled, setWord, Operation, unprivileged, privileged, unassigned, monitorStep, monitorSteps, executeOperation}
 use Rattle.definition_instructions.proofs.MicroLaws.{Closed, reach-cond, reach-bind, reach-step, reach-steps}
@@ -38,18 +39,6 @@ pub record Valid (m : Computer) : Type 0 where
   pub state : stateFits (m .control) ≡ true
 
 -- ---- Valid is what the tests say
-
-pub both : (a b : Bool) → cond a b false ≡ true → (a ≡ true) × (b ≡ true)
-both true b e = (refl, e)
-both false b e = absurd (false≢true e)
-
-neither : (a b : Bool) → cond a false b ≡ true → (a ≡ false) × (b ≡ true)
-neither true b e = absurd (false≢true e)
-neither false b e = (refl, e)
-
-pub passed : (b : Bool) (v : Verdict) (r : Refusal) → cond b v (Rejected r) ≡ Accepted → (b ≡ true) × (v ≡ Accepted)
-passed true v r e = (refl, e)
-passed false v r e = let z : _≡_ {A = ℕ} 0 1 = cc in absurd (omega arith)
 
 cells-below : (s : List ℕ) → cellsFit s ≡ true → Cells s
 unfolding cellsFit Cells

@@ -21,7 +21,6 @@ use Rattle.definition_instructions.proofs.MicroLaws.{reach-cond}
 use Rattle.definition_instructions.proofs.DeviceLaws.{reached-lifted}
 use Rattle.definition_runs.specs.GenericRun.{CycleResult}
 use Rattle.definition_runs.specs.Cycle.{lineOf, lineCleared, enter, fetched, indirectAbsent, effectiveAddress, executeInstruction, fetchRecord, decode, fetch, concluded, cycle}
-use Rattle.definition_runs.specs.Promises.{codeAt}
 use Rattle.definition_runs.proofs.RunLaws.{Meets}
 
 pub register-field : (v : ℕ) → instructionFields v .w < 4
@@ -54,7 +53,7 @@ begun m = machine (m .cells) (fetchRecord (m .control) (forbidden (m .cells) (m 
 module _ (P : Machine → Type 0) (m : Machine) (as-it-was : P m) (forbidden-fetch : P (stepped m)) where
   abbrev Operates : Type 0
   Operates =
-      violation (m .cells) (m .control) (m .control .ic / 2) ≡ false → P (begun m) × ((w sb : ℕ) → w < 4 → P (reached (executeCode (codeAt m) w sb (begun m))))
+      violation (m .cells) (m .control) (m .control .ic / 2) ≡ false → P (begun m) × ((w sb : ℕ) → w < 4 → P (reached (executeCode (instructionFields (fetched (m .cells) (m .control .ic)) .code) w sb (begun m))))
 
   instruction-meets : (i : Instruction) (a : ℕ) → i ≡ instructionFields (fetched (m .cells) (m .control .ic)) → violation (m .cells) (m .control) (m .control .ic / 2) ≡ false → Operates
       → P (reached (executeInstruction (begun m .cells) (begun m .control) (begun m .channel) i a))

@@ -1,15 +1,16 @@
 -- A cycle takes an accepted machine outside the reset state to an accepted machine.
 -- Assumes nothing.
-use Prim.Native.Nat.{ℕ, _/_, _<_}
+use Prim.Native.Nat.{ℕ, _<_}
 use native.Mathlib.Omega.{arith}
 use mathlib.Core.Path.{_≡_, refl}
 use mathlib.Core.Bool.{Bool, true, false, not, cond}
+use Rattle.machine.specs.declared.Refusal.the-variants.{Device}
+use Rattle.machine.specs.declared.Verdict.{Verdict}
+use Rattle.machine.specs.declared.Verdict.the-variants.{Accepted, Rejected}
 use Rattle.machine.specs.declared.Control.{Control}
-use Rattle.machine.specs.declared.Instruction.{Instruction}
-use Rattle.machine.specs.Store.{absent, violation}
 use Rattle.machine.specs.Fields.{withIC, withIR, raised}
 use Rattle.machine.proofs.StoreLaws.{word-lt}
-use Rattle.acceptance.specs.Accept.{stateFits}
+use Rattle.acceptance.specs.Accept.{stateFits, judgeDevices}
 use Rattle.integer.specs.Sums.{sum24}
 use Rattle.definition_instructions.specs.Machine.{Computer, computer, Channel, Machine, machine, computerOf, reached}
 use Rattle.definition_instructions.specs.Channel.{readFrom, writeTo, fourLeft}
@@ -17,8 +18,8 @@ use Rattle.definition_instructions.specs.Meaning.{autoloading}
 use Rattle.definition_instructions.specs.Codes.{execute, executeDevice, executeCode}
 use Rattle.definition_instructions.proofs.Validity.{Valid, Live, valid-put, valid-control, live-control, valid-reset, valid-operation}
 use Rattle.definition_instructions.proofs.DeviceLaws.{ValidChannel, valid-read, valid-write, ValidComputer, LiveComputer, live-devices, valid-device, channel-steps, channel-device}
-use Rattle.definition_runs.specs.Cycle.{lineOf, lineCleared, entryRecord, enter, fetched, indirectAbsent, executeInstruction, fetchRecord, decode, fetch, cycle}
-use Rattle.definition_runs.specs.Run.{inReset, joined}
+use Rattle.definition_runs.specs.Cycle.{lineCleared, entryRecord, enter, fetchRecord, fetch, cycle}
+use Rattle.definition_runs.specs.Run.{inReset}
 use Rattle.definition_runs.specs.Keys.{resetKey, startRecord, startKey, autoloadRecord, autoloadKey}
 use Rattle.definition_runs.proofs.RunLaws.{Meets}
 use Rattle.definition_runs.proofs.CycleLaws.{code-meets, stepped, begun, fetch-meets, lined, cycle-meets}

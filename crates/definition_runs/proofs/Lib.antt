@@ -1,11 +1,4 @@
 pub mod RunLaws
-pub mod CallLaws
 pub mod CycleLaws
-pub mod ChannelLaws
 pub mod CycleValid
-pub mod CycleIsolates
-pub mod Entries
-pub mod Promises
-pub mod Several
-pub mod Claims
 pub mod Fetched

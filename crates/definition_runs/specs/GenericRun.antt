@@ -12,6 +12,7 @@ use Rattle.machine.specs.declared.Answer.the-variants.{Refused, Ended}
 use mathlib.Core.List.{List, [], _∷_}
 use Rattle.machine.specs.declared.Verdict.{Verdict}
 use Rattle.machine.specs.declared.Verdict.the-variants.{Accepted, Rejected}
+use Rattle.machine.specs.Answers.{refusalNumber}
 use Rattle.acceptance.specs.Accept.{judgeCall, judgeDevices}
 
 -- a cycle is either one executed instruction or one entry
@@ -25,6 +26,11 @@ pub record RunResult (M : Type 0) : Type 0 where
   pub answer : Answer
   pub executed : ℕ
   pub entries : ℕ
+
+-- the number of the refusal, 0 where the run is not refused
+abbrev pub refusedNumber : Answer → ℕ
+refusedNumber (Refused q) = refusalNumber q
+refusedNumber (Ended o) = 0
 
 module _ {M : Type 0} where
   abbrev pub ended : Outcome → M → ℕ → ℕ → RunResult M

@@ -1,7 +1,7 @@
 -- The panel keys (14.4; document 01, "Panel keys"; document 02, E1), with the refusals 1 to 3, for the autoload key 13 too. The reset key and the start
 -- key take no devices.
 -- Assumes nothing.
-use Prim.Native.Nat.{ℕ, _/_, _*_}
+use Prim.Native.Nat.{ℕ, _/_}
 use mathlib.Core.Bool.{false, cond}
 use mathlib.Core.List.{List}
 use Rattle.machine.specs.declared.Control.{Control}

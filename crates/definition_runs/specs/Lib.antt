@@ -4,9 +4,6 @@ pub mod Run
 pub mod Keys
 pub mod Lent
 pub mod Answers
-pub mod Promises
-pub mod Several
-pub mod Claims
 pub mod Opened
 pub mod Table
 pub mod Peripherals

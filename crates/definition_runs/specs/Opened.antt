@@ -22,16 +22,17 @@ use Rattle.floating.specs.Convert.{cfEnd, cfByPlaces, cf}
 use Rattle.floating.specs.Divide.{fdStart, fdAdd, fdLoop, divideFloating, fd}
 use Rattle.floating.specs.Multiply.{fmStep, fmEnd, fmLoop, multiplyFloating, fm}
 use Rattle.floating.specs.Operands.{fetchFloating}
-use Rattle.definition_instructions.specs.Channel.{disconnected, deviceBuffer, readFrom, writeTo, fourLeft, shiftedIn, assembled}
+use Rattle.definition_instructions.specs.Channel.{registersOf, disconnected, deviceBuffer, readFrom, writeTo, fourLeft, shiftedIn, assembled}
 use Rattle.definition_instructions.specs.Codes.{codes, lookup, execute, executeDevice, executeCode}
 use Rattle.definition_instructions.specs.Machine.{resetSystem}
 use Rattle.definition_instructions.specs.Meaning.{meaning, commanded, rejection, autoloading, deviceMeaning}
 use Rattle.definition_instructions.specs.MicroOps.{skipped, microStep, microSteps, monitorStep, monitorSteps, executeOperation, deviceStep, deviceSteps, executeDeviceOperation}
-use Rattle.definition_runs.specs.GenericRun.{call, run}
+use Rattle.definition_runs.specs.GenericRun.{thenRun, run, call, calls}
 use Rattle.definition_runs.specs.Cycle.{bitFromLeft, requested, firstRequest, looksAtLines, lineOf, bitAlone, lineCleared, entryRecord, enter, fetched, relative, indexed, address, indirectAbsent, effectiveAddress, executeInstruction, fetchRecord, decode, fetch, concluded, cycle}
 use Rattle.definition_runs.specs.Keys.{resetKey, startRecord, startKey, autoloadRecord, autoloadKey, pressingReset, pressingStart, pressingAutoload}
-use Rattle.definition_runs.specs.Run.{running, runMachine}
+use Rattle.definition_runs.specs.Run.{running, runMachine, runList}
+use Rattle.definition_runs.specs.Lent.{handedBack, runLent, keyHandedBack, autoloadLent}
 
 unfoldable pub opened : ℕ
-unfolding inTask withIC withIR withIM withPending withPR withEX withEnabled raised flagsCleared overflowed carrySet instructionFields resetRecord word pair key putWord putKey byte withByte putByte putLink absent forbids forbidden violation firstWord sizeFits cellFits cellsFit stateFits controlFits judgeStore judgeMachine characterFits charactersFit devicesFit judgeRun judgeAutoload iter until each logicalAnd logicalOr logicalXor cleared isHigh isLow isEqual isNotEqual bitsOne bitsZero sum difference sumWithCarry differenceWithCarry sum24 wmStep wmLast wm wdStep wdLoop abs24 wdSign wdCorrection wdEnd wd places leftStep arithmetic logical normalize normalized ci afLeft leftShifts normalizeOnce normalizeRound precise roundStore faSum faNegligible faAlign faByDifference addFloating fa fs cfEnd cfByPlaces cf fdStart fdAdd fdLoop divideFloating fd fmStep fmEnd fmLoop multiplyFloating fm fetchFloating disconnected deviceBuffer readFrom writeTo fourLeft shiftedIn assembled codes lookup execute executeDevice executeCode resetSystem meaning commanded rejection autoloading deviceMeaning skipped microStep microSteps monitorStep monitorSteps executeOperation deviceStep deviceSteps executeDeviceOperation signedByte call bitFromLeft requested firstRequest looksAtLines lineOf bitAlone lineCleared entryRecord enter fetched relative indexed address indirectAbsent effectiveAddress executeInstruction fetchRecord decode fetch concluded cycle resetKey startRecord startKey autoloadRecord autoloadKey pressingReset pressingStart pressingAutoload running runMachine run
+unfolding inTask withIC withIR withIM withPending withPR withEX withEnabled raised flagsCleared overflowed carrySet instructionFields resetRecord word pair key putWord putKey byte withByte putByte putLink absent forbids forbidden violation firstWord sizeFits cellFits cellsFit stateFits controlFits judgeStore judgeMachine characterFits charactersFit devicesFit judgeRun judgeAutoload iter until each logicalAnd logicalOr logicalXor cleared isHigh isLow isEqual isNotEqual bitsOne bitsZero sum difference sumWithCarry differenceWithCarry sum24 wmStep wmLast wm wdStep wdLoop abs24 wdSign wdCorrection wdEnd wd places leftStep arithmetic logical normalize normalized ci afLeft leftShifts normalizeOnce normalizeRound precise roundStore faSum faNegligible faAlign faByDifference addFloating fa fs cfEnd cfByPlaces cf fdStart fdAdd fdLoop divideFloating fd fmStep fmEnd fmLoop multiplyFloating fm fetchFloating registersOf disconnected deviceBuffer readFrom writeTo fourLeft shiftedIn assembled codes lookup execute executeDevice executeCode resetSystem meaning commanded rejection autoloading deviceMeaning skipped microStep microSteps monitorStep monitorSteps executeOperation deviceStep deviceSteps executeDeviceOperation signedByte call bitFromLeft requested firstRequest looksAtLines lineOf bitAlone lineCleared entryRecord enter fetched relative indexed address indirectAbsent effectiveAddress executeInstruction fetchRecord decode fetch concluded cycle resetKey startRecord startKey autoloadRecord autoloadKey pressingReset pressingStart pressingAutoload thenRun run calls running runMachine runList handedBack runLent keyHandedBack autoloadLent
 opened = 0

@@ -1,4 +1,5 @@
--- Worked input and output, by computation: IO and AW on both devices, the autoload key, refusal 13, and the bootstrap of section 11.5.
+-- Worked input and output, by computation: IO and AW on both devices, the autoload key, refusal 13, the bootstrap of section 11.5, and what is handed
+-- back.
 -- Assumes nothing.
 use Prim.Native.Nat.{ℕ, _+_, _*_, _/_, _%_}
 use mathlib.Core.Path.{_≡_, refl}
@@ -7,14 +8,15 @@ use mathlib.Core.List.{List, [], _∷_, _++_}
 use Rattle.machine.specs.declared.Control.{Control}
 use Rattle.machine.specs.declared.Kind.the-variants.{Exception}
 use Rattle.machine.specs.declared.Outcome.the-variants.{Spent, Interrupted, Reset}
+use Rattle.machine.specs.declared.Answer.the-variants.{Ended}
 use Rattle.machine.specs.declared.Verdict.the-variants.{Accepted}
 use Rattle.machine.specs.Answers.{verdictNumber}
 use Rattle.definition_instructions.specs.Machine.{Channel, Machine, machine}
 use Rattle.definition_instructions.specs.Channel.{lent}
-use Rattle.definition_runs.specs.GenericRun.{ended}
+use Rattle.definition_runs.specs.GenericRun.{refusedNumber, ended}
 use Rattle.definition_runs.specs.Keys.{pressingReset, pressingAutoload}
 use Rattle.definition_runs.specs.Run.{runMachine}
-use Rattle.definition_runs.specs.Promises.{refusedNumber}
+use Rattle.definition_runs.specs.Lent.{returned, runLent, keyReturned, autoloadLent}
 use Rattle.definition_runs.specs.Opened.{opened}
 
 -- 3.4: F (6 bits), W (2), M (2), X (2), D (12); here M = X = 0
@@ -131,6 +133,16 @@ autoload-in-reset :
 unfolding opened
 autoload-in-reset = refl
 
+-- a pending modification of 5 stays
+abbrev pending : ℕ → ℕ → Bool → Control
+pending ic ex r = record { ic = ic; ir = 3; im = 4; pending = 5; pr = 130; ex = ex; monitor = true; enabled = false; reset = r }
+
+autoload-pending :
+    pressingAutoload (machine (eight 2 27) (pending 14 7 true) (at 5 6 (1 ∷ 2 ∷ 3 ∷ 63 ∷ []) [] []))
+    ≡ record { machine = machine (270591 ∷ 2 ∷ 3 ∷ 4 ∷ 20 ∷ 21 ∷ 25 ∷ 27 ∷ []) (pending 0 4 false) (at 63 6 [] [] []); verdict = Accepted }
+unfolding opened
+autoload-pending = refl
+
 -- with three characters, and outside the reset state, nothing changes
 autoload-elsewhere :
     (pressingAutoload (panel true (1 ∷ 2 ∷ 3 ∷ [])) ≡ record { machine = panel true (1 ∷ 2 ∷ 3 ∷ []); verdict = Accepted })
@@ -183,3 +195,39 @@ bootstrap :
     × (runMachine 0 13 loaded ≡ ended Spent (machine (ten (aw 2) 65 (jl 0) (al 65) (io 67)) (given 20 4 true false) (at 16 65 [] (65 ∷ []) (0 ∷ []))) 13 0)
 unfolding opened
 bootstrap = (refl, refl)
+
+-- ---- what is lent and handed back
+
+-- IO w1 2, IO w1 67, W1 = 16711874: a read of the reader, then a write to the typewriter
+abbrev orders : List ℕ
+orders = ten 7 16711874 9 (io 2) (io 67)
+
+-- after a run with the registers 5 and 6, three characters and three bytes lent: IC, the counts, the registers and the buffer
+abbrev handsBack : ℕ → ℕ → ℕ → ℕ → ℕ → List ℕ → Type 0
+handsBack budget ic typewriter taken typed buffer =
+    runLent 0 budget orders (given 16 7 true false) (record { reader = 5; typewriter = 6 }) (9 ∷ 8 ∷ 7 ∷ []) (31 ∷ 32 ∷ 33 ∷ [])
+    ≡ returned
+    (record {
+      control = given ic 4 true false;
+      answer = Ended Spent;
+      executed = budget;
+      entries = 0;
+      devices = record { reader = 9; typewriter = typewriter };
+      taken = taken;
+      typed = typed;
+    })
+    orders
+    buffer
+
+-- one cycle takes one of the three; the second types one byte at the front
+handed-back : handsBack 1 18 6 1 0 (31 ∷ 32 ∷ 33 ∷ []) × handsBack 2 20 16711874 1 1 (194 ∷ 32 ∷ 33 ∷ [])
+unfolding opened
+handed-back = (refl, refl)
+
+-- the autoload key takes four of five
+key-handed-back :
+    autoloadLent (eight 2 27) (given 14 7 true true) (record { reader = 5; typewriter = 6 }) (1 ∷ 2 ∷ 3 ∷ 63 ∷ 9 ∷ [])
+    ≡ keyReturned (record { control = given 0 4 true false; verdict = Accepted; devices = record { reader = 63; typewriter = 6 }; taken = 4 })
+    (270591 ∷ 2 ∷ 3 ∷ 4 ∷ 20 ∷ 21 ∷ 25 ∷ 27 ∷ [])
+unfolding opened
+key-handed-back = refl

@@ -1,4 +1,4 @@
--- Document 01's table and edges, and worked keys and cycles, by computation.
+-- Document 01's table and edges, and worked keys, cycles and lists of budgets, by computation.
 -- Assumes nothing.
 use Prim.Native.Nat.{ℕ, _*_, _+_}
 use mathlib.Core.Path.{_≡_, refl}
@@ -8,17 +8,17 @@ use lib.ListN.{replicate}
 use Rattle.machine.specs.declared.Control.{Control}
 use Rattle.machine.specs.declared.Kind.the-variants.{Exception, Line}
 use Rattle.machine.specs.declared.Outcome.the-variants.{Spent, Interrupted, Reset}
-use Rattle.machine.specs.declared.Verdict.the-variants.{Accepted}
+use Rattle.machine.specs.declared.Refusal.the-variants.{ControlField}
+use Rattle.machine.specs.declared.Verdict.the-variants.{Accepted, Rejected}
 use Rattle.machine.specs.declared.Answer.the-variants.{Ended}
 use Rattle.machine.specs.Store.{word, absent}
 use Rattle.machine.specs.Format.{instructionFields}
-use Rattle.definition_instructions.specs.Machine.{Computer, computer, Machine, machine}
+use Rattle.definition_instructions.specs.Machine.{computer, Machine, machine}
 use Rattle.definition_instructions.specs.Channel.{lent}
-use Rattle.definition_runs.specs.GenericRun.{ended}
+use Rattle.definition_runs.specs.GenericRun.{refusedNumber, ended}
 use Rattle.definition_runs.specs.Cycle.{address}
 use Rattle.definition_runs.specs.Keys.{pressingReset, pressingStart}
-use Rattle.definition_runs.specs.Run.{runMachine}
-use Rattle.definition_runs.specs.Promises.{refusedNumber}
+use Rattle.definition_runs.specs.Run.{runMachine, runList}
 use Rattle.definition_runs.specs.Opened.{opened}
 
 -- no characters, no typing space, registers zero
@@ -110,6 +110,13 @@ line-entry :
 unfolding opened
 line-entry = refl
 
+-- a given bit 0 of IR is a line like the others: number 0
+line-0 :
+    runMachine 0 5 (alone (0 ∷ 0 ∷ 0 ∷ 0 ∷ 7 ∷ 7 ∷ 9 ∷ 0 ∷ []) (monitor 14 8388608 8388608 true))
+    ≡ ended (Interrupted (Line 0)) (alone (0 ∷ 0 ∷ 0 ∷ 0 ∷ 0 ∷ 14 ∷ 9 ∷ 0 ∷ []) (monitor 8 0 8388608 false)) 0 1
+unfolding opened
+line-0 = refl
+
 -- AL w1 5, AL w1 x1 + 3, and a code that is not assigned, from address 14
 abbrev three : Control → Machine
 three c = alone (0 ∷ 0 ∷ 0 ∷ 0 ∷ 7 ∷ 7 ∷ 14 ∷ 2949125 ∷ 2953219 ∷ 16515072 ∷ []) c
@@ -158,6 +165,13 @@ start-elsewhere : pressingStart (constants 22) (given 16 7 5 true false false) �
 unfolding opened
 start-elsewhere = refl
 
+-- refused with 3 for a reset state with interrupts enabled, neither key changes anything
+keys-refused :
+    (pressingReset (constants 22) (given 16 7 5 true true true) ≡ record { machine = computer (constants 22) (given 16 7 5 true true true); verdict = Rejected ControlField })
+    × (pressingStart (constants 22) (given 16 7 5 true true true) ≡ record { machine = computer (constants 22) (given 16 7 5 true true true); verdict = Rejected ControlField })
+unfolding opened
+keys-refused = (refl, refl)
+
 -- 3.4: F (6 bits), W (2), M (2), X (2), D (12)
 abbrev instructionWord : ℕ → ℕ → ℕ → ℕ → ℕ → ℕ
 instructionWord f w m x d = f * 262144 + w * 65536 + m * 16384 + x * 4096 + d
@@ -180,6 +194,12 @@ line-waits = refl
 fetch-absent : runMachine 0 9 (alone (eight 0 7 7 al) (task 16)) ≡ ended (Interrupted Exception) (alone (eight 0 0 16 al) (keyed 4 true)) 0 1
 unfolding opened
 fetch-absent = refl
+
+-- an entry leaves no pending modification, not used up by an absent fetch
+pending-cleared :
+    runMachine 0 9 (alone (eight 0 7 7 al) (given 16 4 5 true true false)) ≡ ended (Interrupted Exception) (alone (eight 0 0 16 al) (given 4 0 5 true false false)) 0 1
+unfolding opened
+pending-cleared = refl
 
 -- in task mode the fetch finds a forbidden cell: word 10 is IC + 2, and nothing is executed
 fetch-forbidden :
@@ -239,6 +259,20 @@ aw-monitor :
     ≡ ended Reset (alone (eight 9 7 16 (instructionWord 0 1 0 0 2000)) (given 16 0 5 true false true)) 1 0
 unfolding opened
 aw-monitor = refl
+
+-- ---- the list of budgets
+
+-- IC 1, which clears bit 23 of IR, at address 14: the line raised for the first run does not join the second, and the counts are summed
+lines-once :
+    runList 1 1 (0 ∷ []) (alone (eight 9 7 7 (instructionWord 47 0 0 0 1)) (monitor 14 0 0 false))
+    ≡ ended Spent (alone (eight 9 7 7 (instructionWord 47 0 0 0 1)) (monitor 16 0 0 false)) 1 0
+unfolding opened
+lines-once = refl
+
+-- after a run that ended reset no other is made: a budget of 65,536 is not looked at
+list-ends : runList 0 1 (65536 ∷ []) (alone (replicate 8 0) (given 0 0 0 true false true)) ≡ ended Reset (alone (replicate 8 0) (given 0 0 0 true false true)) 0 0
+unfolding opened
+list-ends = refl
 
 -- ---- edges
 

@@ -7,11 +7,11 @@ use mathlib.Core.List.{List, [], _∷_}
 use lib.Dec.{ltb}
 use borrow.Author.Tests.{ltb-true, ne-eqb}
 use Rattle.machine.specs.declared.Control.{Control}
+use Rattle.acceptance.proofs.Tests.{both}
 use Rattle.definition_instructions.specs.Machine.{Channel, machine}
 use Rattle.definition_instructions.specs.MicroOps.{executeOperation}
 use Rattle.definition_instructions.specs.Meaning.{None, meaning}
 use Rattle.definition_instructions.specs.Codes.{internal, Code, codes, lookup, execute, executeCode}
-use Rattle.definition_instructions.proofs.Validity.{both}
 use Rattle.control_row.specs.Answers.{faulted, ending}
 
 -- x is none of a, .., a + k - 1: what the last arm of a match is told

@@ -19,11 +19,12 @@ use Rattle.machine.specs.declared.Verdict.the-variants.{Accepted, Rejected}
 use Rattle.machine.specs.Fields.{withIR, raised}
 use Rattle.machine.specs.Records.{resetRecord}
 use Rattle.acceptance.specs.Accept.{stateFits, judgeMachine, judgeCall, devicesFit, judgeRun, judgeAutoload}
+use Rattle.acceptance.proofs.Tests.{passed, accepted-both}
 use Rattle.definition_instructions.specs.Machine.{computer, Channel, Machine, machine, Effect, ok, fault, reached}
 use Rattle.definition_instructions.specs.Channel.{lent, registersOf, fourLeft}
 use Rattle.definition_instructions.specs.MicroOps.{deviceSteps}
 use Rattle.definition_instructions.specs.Meaning.{autoloading}
-use Rattle.definition_instructions.proofs.Validity.{passed, accepted-valid, valid-accepted, Live, valid-control}
+use Rattle.definition_instructions.proofs.Validity.{accepted-valid, valid-accepted, Live, valid-control}
 use Rattle.definition_instructions.proofs.DeviceLaws.{fits-channel, live-devices}
 use Rattle.control_row.specs.declared.End.{End}
 use Rattle.control_row.specs.declared.End.the-variants.{Done, Reset, Faulted}
@@ -33,11 +34,11 @@ use Rattle.definition_runs.specs.Run.{inReset, judgeOf, devicesFitOf, joined, r
 use Rattle.definition_runs.specs.Keys.{autoloadRecord, autoloadKey, pressingAutoload}
 use Rattle.definition_runs.specs.Lent.{machineLent, Returned, returned, handedBack, runLent, KeyReturned, keyReturned, keyHandedBack, autoloadLent}
 use Rattle.definition_runs.specs.Answers.{runResultOf}
-use Rattle.definition_runs.specs.Promises.{KeepsProtected, TouchesNoDevice, Counts}
+use Rattle.run_promises.specs.Promises.{KeepsProtected, TouchesNoDevice, Counts}
 use Rattle.rc4000.specs.Key.{autoloaded}
 use Rattle.definition_runs.proofs.CycleValid.{valid-joined}
-use Rattle.definition_runs.proofs.CallLaws.{call-run}
-use Rattle.definition_runs.proofs.Promises.{accepted-both, isolation, task-call-touches-no-device, counts-of-run, refused-run}
+use Rattle.run_promises.proofs.CallLaws.{call-run}
+use Rattle.run_promises.proofs.Promises.{isolation, task-call-touches-no-device, counts-of-run, refused-run}
 
 call-passed : (v : Verdict) (l b : ℕ) → judgeCall v l b ≡ Accepted → (v ≡ Accepted) × (b < 65536)
 call-passed Accepted l b e =

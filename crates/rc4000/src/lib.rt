@@ -11,7 +11,7 @@ ghost use Rattle.definition_instructions.specs.Channel.{fourLeft};
 ghost use Rattle.definition_runs.specs.Answers.{runResultOf, pressedOf};
 ghost use Rattle.definition_runs.specs.Lent.{machineLent, returned, runLent, keyReturned, keyHandedBack, autoloadLent};
 ghost use Rattle.definition_runs.specs.Keys.{resetKey, startRecord, startKey, pressingReset, pressingStart, autoloadRecord, autoloadKey};
-ghost use Rattle.definition_runs.specs.Promises.{KeepsProtected, TouchesNoDevice, Counts};
+ghost use Rattle.run_promises.specs.Promises.{KeepsProtected, TouchesNoDevice, Counts};
 ghost use Rattle.rc4000.specs.Key.{autoloaded};
 ghost use Rattle.tape.specs.Load.{loading};
 ghost use Rattle.tape.specs.Remark.{remarkSpan, remarkText, placeFrom};

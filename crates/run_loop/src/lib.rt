@@ -4,7 +4,7 @@ ghost use Prim.Native.Nat.{_<_};
 ghost use Rattle.registers.specs.Reg.{wordRange};
 ghost use Rattle.machine.specs.declared.Verdict.the-variants.{Accepted};
 ghost use Rattle.machine.specs.Fields.{raised};
-ghost use Rattle.acceptance.specs.Accept.{judgeMachine};
+ghost use Rattle.acceptance.specs.Accept.{budgetRange, judgeMachine};
 ghost use Rattle.definition_instructions.specs.Machine.{machine};
 ghost use Rattle.definition_runs.specs.Lent.{machineLent, returned, handedBack};
 ghost use Rattle.channel_row.specs.Row.{channelAt, IsChannel};
@@ -40,7 +40,7 @@ fn goes_on(e: CycleEnd) -> bool
 
 // The run that ends with this cycle, n instructions before it.
 fn stop(e: CycleEnd, n: u32) -> RunEnd
-    requires { ⌜ n < 65536 ⌝ }
+    requires { ⌜ n < budgetRange ⌝ }
     ensures { λ r. ⌜ r ≡ stopped e n ⌝ }
 {
     match e {
@@ -71,7 +71,7 @@ fn cycles(
     characters: &[u8],
     typing: &mut [u8],
 ) -> RunEnd
-    requires { ⌜ (judgeMachine (now s) (controlAt (now k)) ≡ Accepted) × (budget < 65536) × IsRow (now k) × IsChannel (now h) (now characters) (now typing) ⌝ }
+    requires { ⌜ (judgeMachine (now s) (controlAt (now k)) ≡ Accepted) × (budget < budgetRange) × IsRow (now k) × IsChannel (now h) (now characters) (now typing) ⌝ }
     ensures value { λ r. ⌜ runEndOf r (now (s .exit)) (controlAt (now (k .exit))) (channelAt (now (h .exit)) (now (characters .entry)) (now (typing .exit))) ≡ running budget (machine (now (s .entry)) (controlAt (now (k .entry))) (channelAt (now (h .entry)) (now (characters .entry)) (now (typing .entry)))) ⌝ }
     ensures channel { λ _. ⌜ IsChannel (now (h .exit)) (now (characters .entry)) (now (typing .exit)) ⌝ }
 {
@@ -156,7 +156,7 @@ pub fn run(
     characters: &[u8],
     typing: &mut [u8],
 ) -> Run
-    requires { ⌜ (judgeMachine (now s) c ≡ Accepted) × (budget < 65536) × (d .reader < wordRange) × (d .typewriter < wordRange) ⌝ }
+    requires { ⌜ (judgeMachine (now s) c ≡ Accepted) × (budget < budgetRange) × (d .reader < wordRange) × (d .typewriter < wordRange) ⌝ }
     ensures { λ r. ⌜ returned r (now (s .exit)) (now (typing .exit)) ≡ handedBack (now (characters .entry)) (running budget (machineLent (now (s .entry)) c d (now (characters .entry)) (now (typing .entry)))) ⌝ }
 {
     if c.reset {
@@ -179,7 +179,7 @@ pub fn run_raised(
     characters: &[u8],
     typing: &mut [u8],
 ) -> Run
-    requires { ⌜ (judgeMachine (now s) (raised c lines) ≡ Accepted) × (budget < 65536) × (d .reader < wordRange) × (d .typewriter < wordRange) ⌝ }
+    requires { ⌜ (judgeMachine (now s) (raised c lines) ≡ Accepted) × (budget < budgetRange) × (d .reader < wordRange) × (d .typewriter < wordRange) ⌝ }
     ensures { λ r. ⌜ returned r (now (s .exit)) (now (typing .exit)) ≡ handedBack (now (characters .entry)) (running budget (machineLent (now (s .entry)) (raised c lines) d (now (characters .entry)) (now (typing .entry)))) ⌝ }
 {
     let n = machine::raise(c, lines);

@@ -10,11 +10,11 @@ use borrow.Author.Tests.{le-leb, eq-eqb, ne-eqb, ltb-true, ltb-false, leb-true, 
 use lib.ListN.{length, take, drop, length-drop}
 use lib.Seq.{drop-drop}
 use lib.Dec.{ltb, leb, eqb}
-use Rattle.machine.specs.declared.Refusal.{Refusal}
 use Rattle.machine.specs.declared.Refusal.the-variants.{TapeEnds, RecordOrder}
 use Rattle.machine.specs.declared.Verdict.{Verdict}
 use Rattle.machine.specs.declared.Verdict.the-variants.{Accepted, Rejected}
 use Rattle.acceptance.specs.Accept.{cellsFit}
+use Rattle.acceptance.proofs.Tests.{refused, passed, both}
 use Rattle.tape.specs.declared.Step.{Step}
 use Rattle.tape.specs.declared.Step.the-variants.{Done, Advance}
 use Rattle.tape.specs.Layout.{lengthOf, kindOf, payloadOf, restOf, recordsOf, firstOf, firstCell, cellCount, blockCells}
@@ -23,13 +23,6 @@ use Rattle.tape.specs.Steps.{stepAfter, stepBy, stepOf, RecordFits, Reco
 use Rattle.tape.proofs.Records.{tail, length-rest, records-none, records-more}
 
 -- ---- an accepted record passed every test
-
-pub refused : {A : Type 0} {r : Refusal} → Rejected r ≡ Accepted → A
-refused e = let no : ⊥ = (let z : _≡_ {A = ℕ} 0 1 = cc in omega arith) in absurd no
-
-pub passed : (b : Bool) (v : Verdict) (r : Refusal) → cond b v (Rejected r) ≡ Accepted → (b ≡ true) × (v ≡ Accepted)
-passed true v r e = (refl, e)
-passed false v r e = refused e
 
 pub record Good (n : ℕ) (after : Bool) (t : List ℕ) : Type 0 where
   pub known : kindKnown (kindOf t) ≡ true
@@ -52,10 +45,6 @@ unfolding judgeRecord
 good-back n after t g = rw (g .known, g .order, g .size, le-leb (6 + lengthOf t) (length t) (g .whole)) (g .payload)
 
 -- ---- what the tests say of each kind
-
-pub both : (a b : Bool) → cond a b false ≡ true → (a ≡ true) × (b ≡ true)
-both true b e = (refl, e)
-both false b e = let no : ⊥ = (let z : _≡_ {A = ℕ} 0 1 = cc in omega arith) in absurd no
 
 pub block-length : (l : ℕ) → lengthFits 1 l ≡ true → (l % 4 ≡ 0) × (8 ≤ l)
 unfolding lengthFits

@@ -13,6 +13,7 @@ use Rattle.machine.specs.declared.Refusal.{Refusal}
 use Rattle.machine.specs.declared.Refusal.the-variants.{StoreSize}
 use Rattle.machine.specs.declared.Verdict.{Verdict}
 use Rattle.machine.specs.declared.Verdict.the-variants.{Accepted, Rejected}
+use Rattle.acceptance.proofs.Tests.{passed, refused}
 use Rattle.acceptance.specs.Accept.{sizeFits, judgeStore}
 use Rattle.tape.specs.declared.Span.{Span}
 use Rattle.tape.specs.Layout.{lengthOf, payloadOf, recordsOf, firstOf}
@@ -20,7 +21,7 @@ use Rattle.tape.specs.Judge.{judgeTape}
 use Rattle.tape.specs.Load.{loadRecords, loadedControl, judgeThen, judgeLoad, loading}
 use Rattle.tape.specs.Remark.{judgeReading, noSpan, spanAt, spanBy, remarkSpan, textBy, remarkText}
 use Rattle.tape.specs.Steps.{Whole}
-use Rattle.tape.proofs.Judged.{passed, refused, Judged, judged}
+use Rattle.tape.proofs.Judged.{Judged, judged}
 use Rattle.tape.proofs.Hunted.{Suffix, suffix, part-is, whole-first}
 
 pub tape-judged : (n : ℕ) (t : List ℕ) → judgeTape n t ≡ Accepted → (length t ≤ 65536) × Judged n false t

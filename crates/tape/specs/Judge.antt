@@ -60,6 +60,10 @@ unfoldable pub judgeRecords : ℕ → Bool → List (List ℕ) → Verdict
 judgeRecords n after [] = Rejected TapeEnds
 judgeRecords n after (t ∷ ts) = let rest = judgeRecords n (eqb (kindOf t) 2) ts in judgeAfter (judgeRecord n after t) t rest
 
+-- the bytes of the longest tape
+abbrev pub mostBytes : ℕ
+mostBytes = 65536
+
 -- 12 first: over 65,536 bytes
 unfoldable pub judgeTape : ℕ → List ℕ → Verdict
-judgeTape n t = cond (leb (length t) 65536) (judgeRecords n false (recordsOf t)) (Rejected TapeLength)
+judgeTape n t = cond (leb (length t) mostBytes) (judgeRecords n false (recordsOf t)) (Rejected TapeLength)

@@ -12,10 +12,14 @@ ghost use Rattle.tape.specs.Judge.{kindKnown, inOrder, lengthFits, judge
 ghost use Rattle.tape.specs.Load.{pasted, storedBlock, loadRecord, loadRecords, loadedControl, judgeLoad, loading};
 ghost use Rattle.tape.specs.Remark.{judgeReading, spanBy, remarkSpan, remarkText, placeFrom};
 ghost use Rattle.tape.specs.Steps.{stepAfter, stepOf, lookFor, RecordFits, RecordsFit, ControlThere, Whole};
+use acceptance::CELL_RANGE;
 use machine::Control;
 use machine::Refusal;
 use machine::State;
 use machine::Verdict;
+
+// The bytes of the longest tape.
+const MOST_BYTES: usize = 65536;
 
 fn joined(b0: u8, b1: u8, b2: u8, b3: u8) -> u32
     ensures { λ r. ⌜ r ≡ b0 + 256 * b1 + 65536 * b2 + 16777216 * b3 ⌝ }
@@ -108,10 +112,10 @@ fn length_fits(k: u32, l: usize) -> bool
     ensures { λ r. ⌜ r ≡ lengthFits k l ⌝ }
 {
     if k == 1 {
-        if l % 4 == 0 {
-            return 8 <= l;
+        if l % 4 != 0 {
+            return false;
         }
-        return false;
+        return 8 <= l;
     }
     if k == 2 {
         return l == 20;
@@ -129,7 +133,7 @@ fn block_cells_fit(p: &[u8], k: usize) -> bool
     let mut i: usize = 0;
     while i < k {
         let x = number_at(p, 4 + 4 * i);
-        if x < 134217728 {
+        if x < CELL_RANGE {
             i += 1;
         } else {
             return false;
@@ -144,37 +148,37 @@ fn judge_block(p: &[u8], cells: usize) -> Verdict
 {
     let first = number_at(p, 0) as usize;
     let k = (p.len() - 4) / 4;
-    if first + k <= cells {
-        if block_cells_fit(p, k) {
-            return Verdict::Accepted;
-        }
+    if first + k > cells {
+        return Verdict::Rejected(Refusal::BlockPlace);
+    }
+    if !block_cells_fit(p, k) {
         return Verdict::Rejected(Refusal::BlockCell);
     }
-    Verdict::Rejected(Refusal::BlockPlace)
+    Verdict::Accepted
 }
 
 fn control_good(p: &[u8]) -> bool
     requires { ⌜ 20 ≤ length (now p) ⌝ }
     ensures { λ r. ⌜ r ≡ controlGood (now (p .entry)) ⌝ }
 {
-    if p[18] <= 7 {
-        if p[19] == 0 {
-            let c = control_of(p);
-            return acceptance::control_fits(c);
-        }
+    if p[18] > 7 {
         return false;
     }
-    false
+    if p[19] != 0 {
+        return false;
+    }
+    let c = control_of(p);
+    acceptance::control_fits(c)
 }
 
 fn judge_control(p: &[u8]) -> Verdict
     requires { ⌜ 20 ≤ length (now p) ⌝ }
     ensures { λ r. ⌜ r ≡ judgeControl (now (p .entry)) ⌝ }
 {
-    if control_good(p) {
-        return Verdict::Accepted;
+    if !control_good(p) {
+        return Verdict::Rejected(Refusal::ControlField);
     }
-    Verdict::Rejected(Refusal::ControlField)
+    Verdict::Accepted
 }
 
 fn judge_payload(p: &[u8], k: u32, cells: usize) -> Verdict
@@ -196,20 +200,20 @@ fn judge_record(t: &[u8], cells: usize, after: bool) -> Verdict
 {
     let k = record_kind(t);
     let l = record_length(t);
-    if kind_known(k) {
-        if in_order(after, k) {
-            if length_fits(k, l) {
-                if 6 + l <= t.len() {
-                    let p = payload(t);
-                    return judge_payload(p, k, cells);
-                }
-                return Verdict::Rejected(Refusal::TapeEnds);
-            }
-            return Verdict::Rejected(Refusal::RecordLength);
-        }
+    if !kind_known(k) {
+        return Verdict::Rejected(Refusal::RecordKind);
+    }
+    if !in_order(after, k) {
         return Verdict::Rejected(Refusal::RecordOrder);
     }
-    Verdict::Rejected(Refusal::RecordKind)
+    if !length_fits(k, l) {
+        return Verdict::Rejected(Refusal::RecordLength);
+    }
+    if 6 + l > t.len() {
+        return Verdict::Rejected(Refusal::TapeEnds);
+    }
+    let p = payload(t);
+    judge_payload(p, k, cells)
 }
 
 // ---- the judge, record by record
@@ -226,13 +230,13 @@ fn step_after(t: &[u8]) -> Step
 {
     let k = record_kind(t);
     let next = 6 + record_length(t);
-    if k == 3 {
-        if t.len() <= next {
-            return Step::Done(Verdict::Accepted);
-        }
+    if k != 3 {
+        return Step::Advance(next, k == 2);
+    }
+    if t.len() > next {
         return Step::Done(Verdict::Rejected(Refusal::RecordOrder));
     }
-    Step::Advance(next, k == 2)
+    Step::Done(Verdict::Accepted)
 }
 
 fn judge_step(t: &[u8], cells: usize, after: bool) -> Step
@@ -271,10 +275,10 @@ fn judge_records(tape: &[u8], cells: usize) -> Verdict
 fn judge_tape(tape: &[u8], cells: usize) -> Verdict
     ensures { λ r. ⌜ r ≡ judgeTape cells (now (tape .entry)) ⌝ }
 {
-    if tape.len() <= 65536 {
-        return judge_records(tape, cells);
+    if tape.len() > MOST_BYTES {
+        return Verdict::Rejected(Refusal::TapeLength);
     }
-    Verdict::Rejected(Refusal::TapeLength)
+    judge_records(tape, cells)
 }
 
 // ---- the hunt for a record of one kind
@@ -419,10 +423,10 @@ pub struct Span {
 fn judge_reading(tape: &[u8], cells: usize) -> Verdict
     ensures { λ r. ⌜ r ≡ judgeReading (now (tape .entry)) cells ⌝ }
 {
-    if acceptance::size_fits(cells) {
-        return judge_tape(tape, cells);
+    if !acceptance::size_fits(cells) {
+        return Verdict::Rejected(Refusal::StoreSize);
     }
-    Verdict::Rejected(Refusal::StoreSize)
+    judge_tape(tape, cells)
 }
 
 fn span_of(tape: &[u8]) -> Span

@@ -9,12 +9,13 @@ use lib.ListN.{length, getD}
 use Rattle.machine.specs.declared.Refusal.the-variants.{CellValue, StoreSize}
 use Rattle.machine.specs.declared.Verdict.{Verdict}
 use Rattle.machine.specs.declared.Verdict.the-variants.{Accepted, Rejected}
+use Rattle.acceptance.proofs.Tests.{passed, refused}
 use Rattle.acceptance.specs.Accept.{sizeFits, cellsFit, judgeStore, judgeMachine}
 use Rattle.tape.specs.Layout.{recordsOf}
 use Rattle.tape.specs.Judge.{judgeTape}
 use Rattle.tape.specs.Load.{loadRecords, loadedControl, judgeThen, judgeLoad, loadedBy, loading}
 use Rattle.tape.specs.Remark.{judgeReading, remarkSpan, remarkText}
-use Rattle.tape.proofs.Judged.{passed, refused, judged-back}
+use Rattle.tape.proofs.Judged.{judged-back}
 use Rattle.tape.proofs.Tapes.{tape-judged, both-accepted, remark-part as part}
 use Rattle.tape_promises.specs.Grammar.{TapeFor}
 use Rattle.tape_promises.specs.Claims.{AcceptedTapes, LoadsLayout, KeptCells, KeptSize, KeptAll, LoadedMachines, SameVerdict, FirstRemark, RemarkPart}

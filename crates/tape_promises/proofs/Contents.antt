@@ -10,12 +10,13 @@ use lib.ListN.{length, take, drop, getD, length-append, length-take, length-drop
 use lib.Seq.{getD-take, getD-drop, getD-append-add, take-nil}
 use lib.Dec.{ltb, eqb}
 use Rattle.machine.specs.declared.Verdict.the-variants.{Accepted}
+use Rattle.acceptance.proofs.Tests.{both}
 use Rattle.acceptance.specs.Accept.{cellsFit}
 use Rattle.tape.specs.Layout.{lengthOf, payloadOf, recordsOf, firstOf, firstCell, cellCount, blockCells, flagsOf, controlOf}
 use Rattle.tape.specs.Load.{pasted, storedBlock, loadRecord, loadRecords}
 use Rattle.tape.specs.Remark.{spanBy}
 use Rattle.tape.proofs.Cells.{length-cells}
-use Rattle.tape.proofs.Judged.{both, first-none, first-here, first-next}
+use Rattle.tape.proofs.Judged.{first-none, first-here, first-next}
 use Rattle.tape.proofs.Loaded.{load-more, load-none}
 use Rattle.tape_promises.specs.Grammar.{Header, ControlPayload, Records, block-then, remark-then, control-then-end}
 use Rattle.tape_promises.specs.Contents.{Block, blocksOf, Names, Unnamed, Holds, written, kept, controlPayload, oneIf, ControlFields, firstRemark, spanOf, textOf}

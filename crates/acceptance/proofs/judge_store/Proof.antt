@@ -1,3 +1,4 @@
+use borrow.Author.Tests.{not-true, not-false}
 use Rattle.acceptance.specs.Accept.{judgeStore}
 use borrow.Author.Needs.{needs}
 use Rattle.acceptance.proofs.judge_store.Statement.{statement}
@@ -6,21 +7,21 @@ use Rattle.acceptance.proofs.judge_store.Tie as tie
 size-fits-requires : tie.Need-size-fits-requires
 size-fits-requires c κs = search needs
 
+returns : tie.Need-returns
+unfolding judgeStore
+returns c = rw (← (c .before .size-fits .ensures), not-true (c .before .size-fits .result) (c .if1 .taken))
+
 cells-fit-requires : tie.Need-cells-fit-requires
 cells-fit-requires c κs = search needs
 
-returns : tie.Need-returns
-unfolding judgeStore
-returns c = rw (← (c .before .before .before .size-fits .ensures), c .before .before .if1 .taken, ← (c .before .cells-fit .ensures), c .if2 .taken)
-
 returns-2 : tie.Need-returns-2
 unfolding judgeStore
-returns-2 c = rw (← (c .before .before .before .size-fits .ensures), c .before .before .if1 .taken, ← (c .before .cells-fit .ensures), c .if2 .left)
+returns-2 c = rw (← (c .before .before .before .size-fits .ensures), not-false (c .before .before .before .size-fits .result) (c .before .before .if1 .left), ← (c .before .cells-fit .ensures), not-true (c .before .cells-fit .result) (c .if2 .taken))
 
 returns-3 : tie.Need-returns-3
 unfolding judgeStore
-returns-3 c = rw (← (c .before .size-fits .ensures), c .if1 .left)
+returns-3 c = rw (← (c .before .before .before .size-fits .ensures), not-false (c .before .before .before .size-fits .result) (c .before .before .if1 .left), ← (c .before .cells-fit .ensures), not-false (c .before .cells-fit .result) (c .if2 .left))
 
 pub judge-store-spec : {M : Type 1} → statement M
 judge-store-spec =
-    tie.close (tie.spec size-fits-requires cells-fit-requires returns returns-2 returns-3)
+    tie.close (tie.spec size-fits-requires returns cells-fit-requires returns-2 returns-3)

@@ -1,6 +1,6 @@
-use borrow.Author.Tests.{le-leb, lt-leb}
 use Rattle.tape.specs.Judge.{judgeBlock}
 use Rattle.tape.specs.Layout.{blockCells}
+use borrow.Author.Tests.{lt-leb, not-true, not-false, le-leb}
 use borrow.Author.Needs.{needs}
 use Rattle.tape.proofs.judge_block.Statement.{statement}
 use Rattle.tape.proofs.judge_block.Tie as tie
@@ -17,20 +17,20 @@ sub-k c = search needs
 add-if1 : tie.Need-add-if1
 add-if1 c = search needs
 
+returns : tie.Need-returns
+unfolding judgeBlock blockCells
+returns c = rw (← (c .before .number-at .ensures), lt-leb _ _ (c .if1 .taken))
+
 block-cells-fit-requires : tie.Need-block-cells-fit-requires
 block-cells-fit-requires c κs = search needs
 
-returns : tie.Need-returns
-unfolding judgeBlock blockCells
-returns c = rw (← (c .before .before .before .number-at .ensures), le-leb _ _ (c .before .before .if1 .taken), ← (c .before .block-cells-fit .ensures), c .if2 .taken)
-
 returns-2 : tie.Need-returns-2
 unfolding judgeBlock blockCells
-returns-2 c = rw (← (c .before .before .before .number-at .ensures), le-leb _ _ (c .before .before .if1 .taken), ← (c .before .block-cells-fit .ensures), c .if2 .left)
+returns-2 c = rw (← (c .before .before .before .number-at .ensures), le-leb _ _ (c .before .before .if1 .left), ← (c .before .block-cells-fit .ensures), not-true (c .before .block-cells-fit .result) (c .if2 .taken))
 
 returns-3 : tie.Need-returns-3
 unfolding judgeBlock blockCells
-returns-3 c = rw (← (c .before .number-at .ensures), lt-leb _ _ (c .if1 .left))
+returns-3 c = rw (← (c .before .before .before .number-at .ensures), le-leb _ _ (c .before .before .if1 .left), ← (c .before .block-cells-fit .ensures), not-false (c .before .block-cells-fit .result) (c .if2 .left))
 
 pub judge-block-spec : {M : Type 1} → statement M
 judge-block-spec =
@@ -40,7 +40,7 @@ judge-block-spec =
     cast-first
     sub-k
     add-if1
-    block-cells-fit-requires
     returns
+    block-cells-fit-requires
     returns-2
     returns-3)

@@ -1,3 +1,4 @@
+use borrow.Author.Tests.{not-true, not-false}
 use Rattle.tape.specs.Judge.{judgeControl}
 use borrow.Author.Needs.{needs}
 use Rattle.tape.proofs.judge_control.Statement.{statement}
@@ -8,11 +9,11 @@ control-good-requires c κs = search needs
 
 returns : tie.Need-returns
 unfolding judgeControl
-returns c = rw (← (c .before .control-good .ensures), c .if1 .taken)
+returns c = rw (← (c .before .control-good .ensures), not-true (c .before .control-good .result) (c .if1 .taken))
 
 returns-2 : tie.Need-returns-2
 unfolding judgeControl
-returns-2 c = rw (← (c .before .control-good .ensures), c .if1 .left)
+returns-2 c = rw (← (c .before .control-good .ensures), not-false (c .before .control-good .result) (c .if1 .left))
 
 pub judge-control-spec : {M : Type 1} → statement M
 judge-control-spec = tie.close (tie.spec control-good-requires returns returns-2)

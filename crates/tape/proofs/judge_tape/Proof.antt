@@ -1,19 +1,19 @@
 use Rattle.tape.specs.Judge.{judgeTape}
-use borrow.Author.Tests.{le-leb, lt-leb}
+use borrow.Author.Tests.{lt-leb, le-leb}
 use borrow.Author.Needs.{needs}
 use Rattle.tape.proofs.judge_tape.Statement.{statement}
 use Rattle.tape.proofs.judge_tape.Tie as tie
 
+returns : tie.Need-returns
+unfolding judgeTape
+returns c = rw (lt-leb _ _ (c .if1 .taken))
+
 judge-records-requires : tie.Need-judge-records-requires
 judge-records-requires c κs = search needs
 
-returns : tie.Need-returns
-unfolding judgeTape
-returns c = rw (le-leb _ _ (c .before .if1 .taken), ← (c .judge-records .ensures))
-
 returns-2 : tie.Need-returns-2
 unfolding judgeTape
-returns-2 c = rw (lt-leb _ _ (c .if1 .left))
+returns-2 c = rw (le-leb _ _ (c .before .if1 .left), ← (c .judge-records .ensures))
 
 pub judge-tape-spec : {M : Type 1} → statement M
-judge-tape-spec = tie.close (tie.spec judge-records-requires returns returns-2)
+judge-tape-spec = tie.close (tie.spec returns judge-records-requires returns-2)

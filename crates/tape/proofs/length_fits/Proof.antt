@@ -5,11 +5,11 @@ use Rattle.tape.proofs.length_fits.Tie as tie
 
 returns : tie.Need-returns
 unfolding lengthFits
-returns c = rw (eq-eqb _ _ (c .before .if1 .taken), eq-eqb _ _ (c .if2 .taken))
+returns c = rw (eq-eqb _ _ (c .before .if1 .taken), ne-eqb _ _ (c .if2 .taken))
 
 returns-2 : tie.Need-returns-2
 unfolding lengthFits
-returns-2 c = rw (eq-eqb _ _ (c .before .if1 .taken), ne-eqb _ _ (c .if2 .left))
+returns-2 c = rw (eq-eqb _ _ (c .before .if1 .taken), eq-eqb _ _ (c .if2 .left))
 
 returns-3 : tie.Need-returns-3
 unfolding lengthFits

@@ -19,16 +19,16 @@ use Rattle.machine.specs.declared.Verdict.the-variants.{Accepted, Rejected}
 use Rattle.machine.specs.Store.{word}
 use Rattle.machine.specs.Records.{interruptNumber, interruptionProgram}
 use Rattle.machine.specs.Format.{instructionFields}
-use Rattle.machine.specs.Answers.{refusalNumber, kindNumber}
+use Rattle.machine.specs.Answers.{kindNumber}
 use Rattle.acceptance.specs.Accept.{sizeFits, cellsFit, controlFits, judgeMachine}
 use Rattle.registers.specs.Reg.{iter}
 use Rattle.definition_instructions.specs.Machine.{Computer, Channel, Machine, computerOf}
 use Rattle.definition_instructions.specs.Protected.{forbiddenIn, InTaskMode, EqualProtected}
-use Rattle.definition_runs.specs.GenericRun.{CycleResult, instruction, entry, RunResult, refused, total}
+use Rattle.definition_runs.specs.GenericRun.{CycleResult, instruction, entry, RunResult, refusedNumber, refused, total}
 use Rattle.definition_runs.specs.Cycle.{fetched, cycle}
 use Rattle.definition_runs.specs.Run.{inReset, judgeOf, devicesFitOf, judgeRunOf, joined, runMachine, runList}
 use Rattle.definition_runs.specs.Keys.{pressingReset, pressingStart, judgeAutoloadOf, pressingAutoload}
 use Rattle.definition_runs.specs.Lent.{Returned, runLent}
 
 -- the address from which words are kept: all from 8 up, save words 8 and 10 if an interruption was entered
 abbrev pub keptFrom : Answer → ℕ
@@ -164,11 +164,6 @@ RefusedRun = (lines budget : ℕ) (m : Machine) (q : Refusal) → judgeRunOf lin
 
 abbrev pub RefusedOnly : Type 0
 RefusedOnly = (lines budget : ℕ) (m : Machine) (q : Refusal) → runMachine lines budget m .answer ≡ Refused q → judgeRunOf lines budget m ≡ Rejected q
-
--- the number of the refusal, 0 where the run is not refused
-abbrev pub refusedNumber : Answer → ℕ
-refusedNumber (Refused q) = refusalNumber q
-refusedNumber (Ended o) = 0
 
 -- the first of the numbers 1 to 5 and 13, in this order, whose condition is met, 0 for none
 abbrev pub dueRefusal : ℕ → ℕ → Machine → ℕ

@@ -15,7 +15,7 @@ use borrow.Author.Tests.{ne-eqb}
 use Rattle.machine.specs.declared.Kind.{Kind}
 use Rattle.machine.specs.declared.Outcome.the-variants.{Spent, Interrupted, Reset}
 use Rattle.machine.specs.declared.Refusal.{Refusal}
-use Rattle.machine.specs.declared.Refusal.the-variants.{StoreSize, CellValue, ControlField, Lines, Budget, Device}
+use Rattle.machine.specs.declared.Refusal.the-variants.{StoreSize, CellValue, ControlField, Lines, Budget}
 use Rattle.machine.specs.declared.Answer.{Answer}
 use Rattle.machine.specs.declared.Answer.the-variants.{Refused, Ended}
 use Rattle.machine.specs.declared.Verdict.{Verdict}
@@ -24,26 +24,28 @@ use Rattle.machine.specs.Store.{word}
 use Rattle.machine.specs.Answers.{kindNumber, verdictNumber}
 use Rattle.machine.specs.Fields.{withIR, raised}
 use Rattle.acceptance.specs.Accept.{sizeFits, cellsFit, controlFits, judgeMachine, judgeCall, judgeDevices, judgeRun, judgeAutoload}
+use Rattle.acceptance.proofs.Tests.{passed, accepted-both}
 use Rattle.definition_instructions.specs.Machine.{Computer, Machine, computerOf, Effect, reached}
 use Rattle.definition_instructions.specs.Channel.{registersOf}
 use Rattle.definition_instructions.specs.Codes.{Mnemonic, internal, device, Code, codes, lookup, execute, executeDevice, executeMnemonic, executeCode}
 use Rattle.definition_instructions.specs.Protected.{forbiddenIn, InTaskMode, EqualProtected}
 use Rattle.definition_instructions.proofs.Isolation.{equal-refl, equal-trans, equal-sym, equal-fewer, forbidden-equal, isolated-control}
-use Rattle.definition_instructions.proofs.Validity.{Valid, passed, accepted-valid, valid-accepted}
+use Rattle.definition_instructions.proofs.Validity.{Valid, accepted-valid, valid-accepted}
 use Rattle.definition_instructions.proofs.DeviceLaws.{reached-lifted, task-device, ValidChannel, fits-channel, channel-fits, valid-read, valid-write, ValidComputer}
-use Rattle.definition_runs.specs.GenericRun.{CycleResult, instruction, entry, run, judged}
+use Rattle.definition_runs.specs.GenericRun.{CycleResult, instruction, entry, refusedNumber, run, judged}
 use Rattle.definition_runs.specs.Cycle.{fetchRecord, cycle}
 use Rattle.definition_runs.specs.Run.{inReset, judgeOf, devicesFitOf, joined, runMachine, runList}
 use Rattle.definition_runs.specs.Keys.{pressedBy, pressingReset, pressingStart, pressingAutoload, resetKey, startKey, autoloadKey}
 use Rattle.definition_runs.specs.Lent.{machineLent, takenOf, bufferOf, handedBack, runLent}
-use Rattle.definition_runs.specs.Promises.{keptFrom, Isolation, TaskTouchesNoDevice, TaskCallTouchesNoDevice, TwoRuns, BudgetList, Counts, CountsOfRun, machineOf, ThatManyCycles, OutcomeOfRun, StaysAccepted, KeysStayAccepted, AutoloadStaysAccepted, RefusedRun, RefusedOnly, refusedNumber, dueRefusal, RefusalNumbers, StoredNumber, codeAt, OthersTouchNoDevice, AllowedTouchesNoDevice, GoesOn, ChannelGoesOn, CallWithinLent}
-use Rattle.definition_runs.proofs.RunLaws.{run-counts, run-cycled, isRefused, run-made, Meets, EndsIn, run-keeps}
-use Rattle.definition_runs.proofs.CallLaws.{call-refused, call-run, call-cases, calls-total}
+use Rattle.run_promises.specs.Promises.{keptFrom, Isolation, TaskTouchesNoDevice, TaskCallTouchesNoDevice, TwoRuns, BudgetList, Counts, CountsOfRun, machineOf, ThatManyCycles, OutcomeOfRun, StaysAccepted, KeysStayAccepted, AutoloadStaysAccepted, RefusedRun, RefusedOnly, dueRefusal, RefusalNumbers, StoredNumber, codeAt, OthersTouchNoDevice, AllowedTouchesNoDevice, GoesOn, ChannelGoesOn, CallWithinLent}
+use Rattle.definition_runs.proofs.RunLaws.{Meets, EndsIn, run-keeps}
+use Rattle.run_promises.proofs.RunCounts.{run-counts, run-cycled, isRefused, run-made}
+use Rattle.run_promises.proofs.CallLaws.{call-refused, call-run, call-cases, calls-total}
 use Rattle.definition_runs.proofs.CycleLaws.{code-meets, begun, fetch-meets, cycle-meets}
-use Rattle.definition_runs.proofs.ChannelLaws.{goes-on-refl, on-read, on-write}
-use Rattle.definition_runs.proofs.CycleIsolates.{Entry, Confined, ConfinedEntry, cycle-confines, Task, cycle-outside}
-use Rattle.definition_runs.proofs.Entries.{Stored, cycle-stores}
+use Rattle.run_promises.proofs.ChannelLaws.{goes-on-refl, on-read, on-write}
+use Rattle.run_promises.proofs.CycleIsolates.{Entry, Confined, ConfinedEntry, cycle-confines, Task, cycle-outside}
+use Rattle.cycle_promises.proofs.Entries.{Stored, cycle-stores}
 use Rattle.definition_runs.proofs.CycleValid.{cycle-valid, valid-joined, cycle-channel, valid-resetKey, valid-startKey, valid-autoloadKey, channel-autoloadKey}
 
 -- ---- (e) an accepted machine stays accepted
 
@@ -67,10 +69,6 @@ run-channel = run-leaves (λ m. ValidChannel (m .channel)) (cycle-channel ValidC
 accepted-call : (v : Verdict) (l b : ℕ) → judgeCall v l b ≡ Accepted → v ≡ Accepted
 accepted-call Accepted l b e = refl
 accepted-call (Rejected q) l b e = e
-
-pub accepted-both : (v : Verdict) (f : Bool) → judgeDevices v f ≡ Accepted → (v ≡ Accepted) × (f ≡ true)
-accepted-both Accepted f e = (refl, passed f Accepted Device e .0)
-accepted-both (Rejected q) f e = let z : _≡_ {A = ℕ} 0 1 = cc in absurd (omega arith)
 
 both-accepted : (v : Verdict) (f : Bool) → v ≡ Accepted → f ≡ true → judgeDevices v f ≡ Accepted
 both-accepted v f e g = rw (e, g)

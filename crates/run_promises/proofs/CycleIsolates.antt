@@ -15,11 +15,11 @@ use Rattle.definition_instructions.specs.Codes.{execute, executeDevice, execute
 use Rattle.definition_instructions.specs.Protected.{EqualProtected}
 use Rattle.definition_instructions.proofs.Isolation.{equal-trans, equal-fewer, equal-put, equal-control, Isolated, isolated-control, allowed-cell, isolated-operation}
 use Rattle.definition_instructions.proofs.DeviceLaws.{task-device, ValidComputer}
-use Rattle.definition_runs.specs.Cycle.{lineOf, lineCleared, entryRecord, enter, fetchRecord, fetch, cycle}
+use Rattle.definition_runs.specs.Cycle.{lineCleared, entryRecord, enter, fetchRecord, fetch, cycle}
 use Rattle.definition_runs.specs.Run.{inReset}
 use Rattle.definition_runs.proofs.RunLaws.{Meets}
 use Rattle.definition_runs.proofs.CycleLaws.{code-meets, stepped, begun, fetch-meets, entered, lined, cycle-meets}
 use Rattle.definition_runs.proofs.CycleValid.{valid-lined, valid-fetch}
 
 -- `n` has entered an interruption with the protected part of `m`, save words 8 and 10
 pub record Entry (m n : Computer) : Type 0 where

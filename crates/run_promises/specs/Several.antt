@@ -14,9 +14,9 @@ use Rattle.machine.specs.declared.Answer.the-variants.{Ended}
 use Rattle.machine.specs.Records.{interruptionProgram}
 use Rattle.definition_instructions.specs.Machine.{Computer, computer}
 use Rattle.definition_instructions.specs.Protected.{forbiddenIn, InTaskMode, EqualProtected}
 use Rattle.definition_runs.specs.GenericRun.{total}
 use Rattle.definition_runs.specs.Lent.{Returned, runLent}
-use Rattle.definition_runs.specs.Promises.{EqualEntries}
+use Rattle.run_promises.specs.Promises.{EqualEntries}
 
 -- what is lent to a call
 pub record Lent : Type 0 where

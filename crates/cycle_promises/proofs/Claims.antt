@@ -21,23 +21,23 @@ use Rattle.machine.specs.Records.{resetRecord, returnAddress}
 use Rattle.machine.specs.Answers.{verdictNumber}
 use Rattle.machine.proofs.StoreLaws.{length-putWord, word-other, word-same, key-putWord, length-putKey, word-putKey, key-other, key-same}
 use Rattle.acceptance.specs.Accept.{sizeFits, cellsFit, controlFits, judgeMachine, judgeDevices, judgeAutoload}
+use Rattle.acceptance.proofs.Tests.{both, accepted-both}
 use Rattle.integer.specs.Bitwise.{logicalOr}
 use Rattle.integer.proofs.Digits.{or-is}
 use Rattle.definition_instructions.specs.Machine.{Computer, computer, Channel, Machine, machine, computerOf, reached, resetSystem}
 use Rattle.definition_instructions.specs.Channel.{readFrom, fourLeft, shiftedIn, assembled}
 use Rattle.definition_instructions.specs.MicroOps.{microStep, monitorStep, deviceStep, deviceSteps}
 use Rattle.definition_instructions.specs.Meaning.{autoloading}
-use Rattle.definition_instructions.proofs.Validity.{Valid, both, accepted-valid}
+use Rattle.definition_instructions.proofs.Validity.{Valid, accepted-valid}
 use Rattle.definition_instructions.proofs.DeviceLaws.{Characters, fits-channel, ValidComputer}
 use Rattle.definition_runs.specs.Cycle.{bitFromLeft, requested, firstRequest, looksAtLines, lineOf, bitAlone, lineCleared, entryRecord, enter, cycle}
 use Rattle.definition_runs.specs.Run.{inReset, judgeOf, devicesFitOf}
 use Rattle.definition_runs.specs.Keys.{pressedBy, resetKey, startRecord, startKey, autoloadRecord, autoloadKey, pressingReset, pressingStart, judgeAutoloadOf, pressingAutoload}
-use Rattle.definition_runs.specs.Claims.{SameCells, ResetPressed, StartPressed, ResetKey, StartKey, RefusedKeys, KeyNumbers, AutoloadPressed, AutoloadKey, RefusedAutoload, AutoloadNumbers, AssembledWord, Entered, LineTaken, EntryBy, EntryOfCycle, LinesTaken}
+use Rattle.cycle_promises.specs.Claims.{SameCells, ResetPressed, StartPressed, ResetKey, StartKey, RefusedKeys, KeyNumbers, AutoloadPressed, AutoloadKey, RefusedAutoload, AutoloadNumbers, AssembledWord, Entered, LineTaken, EntryBy, EntryOfCycle, LinesTaken}
 use Rattle.definition_runs.proofs.RunLaws.{Meets}
 use Rattle.definition_runs.proofs.CycleLaws.{entered, lined, cycle-meets}
 use Rattle.definition_runs.proofs.CycleValid.{valid-lined, valid-fetch}
-use Rattle.definition_runs.proofs.Entries.{entry-made}
-use Rattle.definition_runs.proofs.Promises.{accepted-both}
+use Rattle.cycle_promises.proofs.Entries.{entry-made}
 
 -- ---- panel keys
 

@@ -1,26 +1,24 @@
 -- The proofs of specs/Several.antt. Assumes nothing.
-use Prim.Native.Nat.{ℕ, _+_, _-_, _≤_}
+use Prim.Native.Nat.{ℕ, _+_, _≤_}
 use native.Mathlib.Omega.{arith}
 use mathlib.Core.Path.{_≡_, refl, sym, ap, _∙_, subst}
 use mathlib.Core.List.{List, [], _∷_, _++_, append-assoc, append-nil}
-use lib.ListN.{length, take, drop, length-append}
+use lib.ListN.{length, drop, length-append}
 use lib.Seq.{take-append-seam, drop-append-seam, drop-at}
-use Rattle.machine.specs.declared.Control.{Control}
-use Rattle.machine.specs.declared.Devices.{Devices}
 use Rattle.machine.specs.declared.Outcome.the-variants.{Spent, Interrupted, Reset}
 use Rattle.machine.specs.declared.Answer.{Answer}
 use Rattle.machine.specs.declared.Answer.the-variants.{Refused, Ended}
 use Rattle.definition_instructions.specs.Machine.{Channel, Machine, computerOf}
 use Rattle.definition_instructions.specs.Channel.{registersOf}
 use Rattle.definition_runs.specs.GenericRun.{RunResult, added, thenBy, thenRun, total, calls}
 use Rattle.definition_runs.specs.Cycle.{cycle}
 use Rattle.definition_runs.specs.Run.{inReset, judgeOf, devicesFitOf, joined, runMachine, runList}
-use Rattle.definition_runs.specs.Lent.{machineLent, takenOf, bufferOf, Returned, handedBack, runLent}
-use Rattle.definition_runs.specs.Promises.{EqualEntries, GoesOn}
-use Rattle.definition_runs.specs.Several.{Lent, computerReturned, TwoCalls, lentLater, CallsMade, followedBy, summed, OneCall}
-use Rattle.definition_runs.proofs.CallLaws.{carried, calls-carried}
-use Rattle.definition_runs.proofs.ChannelLaws.{typedBefore, cycle-alike}
-use Rattle.definition_runs.proofs.Promises.{two-runs, budget-list, channel-goes-on}
+use Rattle.definition_runs.specs.Lent.{machineLent, takenOf, Returned, handedBack, runLent}
+use Rattle.run_promises.specs.Promises.{EqualEntries}
+use Rattle.run_promises.specs.Several.{Lent, computerReturned, TwoCalls, lentLater, CallsMade, followedBy, summed, OneCall}
+use Rattle.run_promises.proofs.CallLaws.{carried, calls-carried}
+use Rattle.run_promises.proofs.ChannelLaws.{typedBefore, cycle-alike}
+use Rattle.run_promises.proofs.Promises.{two-runs, budget-list, channel-goes-on}
 
 -- the machine at the beginning of a call
 abbrev begins : Lent → Machine

@@ -13,8 +13,9 @@ use Rattle.machine.specs.declared.Answer.the-variants.{Refused, Ended}
 use Rattle.machine.specs.declared.Verdict.{Verdict}
 use Rattle.machine.specs.declared.Verdict.the-variants.{Accepted, Rejected}
 use Rattle.acceptance.specs.Accept.{judgeCall, judgeDevices}
 use Rattle.definition_runs.specs.GenericRun.{CycleResult, instruction, entry, RunResult, refused, counted, after, added, thenBy, thenRun, run, total, judged, call, calls}
-use Rattle.definition_runs.proofs.RunLaws.{run-reset, run-out, run-live, run-add}
+use Rattle.definition_runs.proofs.RunLaws.{run-reset, run-out, run-live}
+use Rattle.run_promises.proofs.RunCounts.{run-add}
 
 by-cong : {M : Type 0} (o : Answer) (r : RunResult M) (j k : M → RunResult M) → j (r .machine) ≡ k (r .machine) → thenBy o r j ≡ thenBy o r k
 by-cong (Refused n) r j k e = refl

@@ -13,12 +13,12 @@ use Rattle.machine.specs.Answers.{kindNumber}
 use Rattle.machine.proofs.StoreLaws.{length-putWord, word-other, word-same, key-putWord}
 use Rattle.definition_instructions.specs.Machine.{Machine}
 use Rattle.definition_instructions.proofs.DeviceLaws.{ValidComputer}
 use Rattle.definition_runs.specs.Cycle.{lineOf, entryRecord, enter, cycle}
 use Rattle.definition_runs.specs.Run.{inReset}
-use Rattle.definition_runs.specs.Claims.{SameCells, Entered}
+use Rattle.cycle_promises.specs.Claims.{SameCells, Entered}
 use Rattle.definition_runs.proofs.RunLaws.{Meets}
 use Rattle.definition_runs.proofs.CycleLaws.{entered, lined, cycle-meets}
 use Rattle.definition_runs.proofs.CycleValid.{valid-lined, valid-fetch}
 
 -- the two writes of an entry
 same-cells : (s : List ℕ) (v i : ℕ) → SameCells 8 10 s (putWord (putWord s 4 v) 5 i)

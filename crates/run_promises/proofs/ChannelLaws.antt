@@ -5,7 +5,7 @@ use mathlib.Core.Path.{_≡_, refl, sym, ap, _∙_}
 use mathlib.Core.Bool.{Bool, true, false, cond}
 use mathlib.Core.List.{List, [], _∷_, _++_, append-assoc, append-nil}
 use lib.Dec.{eqb, ltb}
-use lib.ListN.{length, length-append}
+use lib.ListN.{length-append}
 use Rattle.machine.specs.declared.Control.{Control}
 use Rattle.machine.specs.declared.Instruction.{Instruction}
 use Rattle.machine.specs.declared.Fault.the-variants.{Absent, Privileged, Jump}
@@ -18,11 +18,11 @@ use Rattle.definition_instructions.specs.Channel.{disconnected, deviceBuffer, t
 use Rattle.definition_instructions.specs.MicroOps.{DeviceOp, monitor, senseDevice, controlDevice, readDevice, writeDevice, DeviceOperation, peripheral, resetting, monitorStep, deviceStep, deviceSteps, executeDeviceOperation}
 use Rattle.definition_instructions.specs.Meaning.{Peripheral, IO, AW, deviceMeaning}
 use Rattle.definition_instructions.specs.Codes.{Mnemonic, internal, device, codes, lookup, execute, executeDevice, executeMnemonic, executeCode}
 use Rattle.definition_runs.specs.GenericRun.{CycleResult, entry}
 use Rattle.definition_runs.specs.Cycle.{lineOf, indirectAbsent, effectiveAddress, executeInstruction, decode, fetch, concluded, cycle}
-use Rattle.definition_runs.specs.Promises.{GoesOn}
-use Rattle.definition_runs.proofs.CallLaws.{carriedResult}
+use Rattle.run_promises.specs.Promises.{GoesOn}
+use Rattle.run_promises.proofs.CallLaws.{carriedResult}
 use Rattle.definition_runs.proofs.CycleLaws.{entered, lined}
 
 -- ---- the channel goes on
 

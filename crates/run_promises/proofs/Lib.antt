@@ -1,0 +1,6 @@
+pub mod RunCounts
+pub mod CallLaws
+pub mod ChannelLaws
+pub mod CycleIsolates
+pub mod Promises
+pub mod Several

@@ -1,0 +1,1 @@
+// What is promised of every run, and of several. No code: see specs/.
