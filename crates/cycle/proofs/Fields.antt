@@ -1,23 +1,19 @@
 -- The displacement field has 12 bits; and the fields that the code sets one by one are the record that the definition names.
 -- Assumes nothing.
-use Prim.Native.Nat.{ℕ, _+_, _*_, _/_, _%_, _<_}
+use Prim.Native.Nat.{ℕ, _+_, _%_, _<_}
 use native.Mathlib.Omega.{arith}
 use mathlib.Core.Path.{_≡_}
-use mathlib.Core.Bool.{Bool, true, false}
+use mathlib.Core.Bool.{Bool}
 use Rattle.machine.specs.declared.Control.{Control}
 use Rattle.machine.specs.Format.{instructionFields}
-use Rattle.machine.specs.Fields.{withIC, withPending, withEnabled}
+use Rattle.machine.specs.Fields.{withIC, withPending}
 use Rattle.integer.specs.Sums.{sum24}
-use Rattle.definition_runs.specs.Cycle.{entryRecord, fetchRecord}
+use Rattle.definition_runs.specs.Cycle.{fetchRecord}
 use Rattle.control_row.specs.Row.{withMonitor}
 
 pub displacement-fits : (v : ℕ) → instructionFields v .d < 4096
 unfolding instructionFields
 displacement-fits v = omega arith
-
-pub entry-fields : (c : Control) (a : ℕ) → a < 16777216 → withEnabled (withMonitor (withPending (withIC c (a / 2 * 2)) 0) true) false ≡ entryRecord c a
-unfolding withEnabled withMonitor withPending withIC entryRecord
-entry-fields c a h = let e : a / 2 * 2 % 16777216 ≡ a / 2 * 2 = omega arith in rw e
 
 pub fetch-fields : (c : Control) (b : Bool) → withPending (withIC (withMonitor c b) (sum24 (withMonitor c b .ic) 2)) 0 ≡ fetchRecord c b
 unfolding withPending withIC withMonitor fetchRecord sum24

@@ -1,18 +1,10 @@
--- What the code's answers stand for, and steps of the code: no public contract rests on the latter.
--- Assumes nothing.
-use Prim.Native.Nat.{ℕ, _/_, _%_}
-use mathlib.Core.Path.{_≡_}
-use mathlib.Core.Bool.{Bool, true, false, cond}
+-- What the code's answers of a cycle stand for. Assumes nothing.
+use Prim.Native.Nat.{ℕ}
 use mathlib.Core.List.{List}
-use Rattle.registers.specs.Reg.{wordRange}
 use Rattle.machine.specs.declared.Control.{Control}
 use Rattle.machine.specs.Records.{resetRecord}
-use Rattle.machine.specs.Store.{key, absent, forbids}
-use Rattle.integer.specs.Sums.{sum24}
 use Rattle.definition_instructions.specs.Machine.{Channel, Machine, machine}
 use Rattle.definition_runs.specs.GenericRun.{CycleResult, instruction, entry}
-use Rattle.definition_runs.specs.Cycle.{fetched}
-use Rattle.control_row.specs.Row.{withMonitor}
 use Rattle.cycle.specs.declared.CycleEnd.{CycleEnd}
 use Rattle.cycle.specs.declared.CycleEnd.the-variants.{Executed, Reset, Entered}
 
@@ -21,20 +13,3 @@ abbrev pub cycleOf : CycleEnd → List ℕ → Control → Channel → CycleResu
 cycleOf Executed s c h = instruction (machine s c h)
 cycleOf Reset s c h = instruction (machine s (resetRecord c) h)
 cycleOf (Entered k) s c h = entry k (machine s c h)
-
--- v is the instruction at IC, with the key of its cell over it
-pub record Fetched (s : List ℕ) (ic v : ℕ) : Type 0 where
-  pub word : v % wordRange ≡ fetched s ic
-  pub key : v / wordRange % 8 ≡ key s (ic / 2)
-
--- IC or IC + 1 does not exist
-unfoldable pub fetchAbsent : List ℕ → ℕ → Bool
-fetchAbsent s ic = cond (absent s ic) true (absent s (sum24 ic 1))
-
--- Test Protection of a cell with the key q
-unfoldable pub violates : Control → ℕ → Bool
-violates c q = cond (c .monitor) false (forbids (c .pr) q)
-
--- where it passes, monitor mode := PR(PK) = 1
-unfoldable pub fetchMode : Control → ℕ → Control
-fetchMode c q = cond (violates c q) c (withMonitor c (forbids (c .pr) q))

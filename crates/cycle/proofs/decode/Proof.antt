@@ -1,60 +1,40 @@
 use Rattle.cycle.proofs.Fields.{displacement-fits}
 use Rattle.cycle.proofs.Steps.{decode-violated, decode-passed}
 use mathlib.Core.Path.{sym, _∙_}
-use Rattle.definition_runs.specs.Cycle.{decode}
 use borrow.Author.Needs.{needs}
 use Rattle.cycle.proofs.decode.Statement.{statement}
 use Rattle.cycle.proofs.decode.Tie as tie
-use Rattle.cycle.proofs.decode.Reads as reads
-use Rattle.cycle.proofs.decode.Lts as lts
-use Rattle.cycle.proofs.address.Reads as address-reads
-use Rattle.cycle.proofs.is_fetch_violation.Reads as is-fetch-violation-reads
-use Rattle.cycle.proofs.execute_instruction.Reads as execute-instruction-reads
-use Rattle.cycle.proofs.raise_ic.Reads as raise-ic-reads
-use Rattle.machine.proofs.Instruction.of_word.Reads as of-word-reads
-use Rattle.control_row.proofs.set_pending.Reads as set-pending-reads
 
--- src/lib.rt:263:8
 is-fetch-violation-requires : tie.Need-is-fetch-violation-requires
 is-fetch-violation-requires c κs = search needs
 
--- src/lib.rt:264:9
 raise-ic-requires : tie.Need-raise-ic-requires
 raise-ic-requires c κs = search needs
 
--- src/lib.rt:265:9
 returns : tie.Need-returns
 returns c = (decode-violated _ _ _ _ _ (c .before .before .before .before .before .before .before .before .pre .0) (sym (c .before .before .before .is-fetch-violation .ensures .0) ∙ c .before .before .if1 .taken) (rw (c .before .before .before .is-fetch-violation .ensures .1 .0) at (c .raise-ic .ensures .0)), (search needs, search needs))
 
--- src/lib.rt:267:9
 of-word-requires : tie.Need-of-word-requires
 of-word-requires c κs = search needs
 
--- src/lib.rt:268:9
 address-requires : tie.Need-address-requires
 address-requires c κs = rw (c .before .before .of-word .ensures) (displacement-fits _)
 
--- src/lib.rt:269:5
 raise-ic-requires-2 : tie.Need-raise-ic-requires-2
 raise-ic-requires-2 c κs = search needs
 
--- src/lib.rt:270:5
 set-pending-requires : tie.Need-set-pending-requires
 set-pending-requires c κs = search needs
 
--- src/lib.rt:271:5
 execute-instruction-requires : tie.Need-execute-instruction-requires
 execute-instruction-requires c κs = search needs
 
--- src/lib.rt:250:1
 same-length : tie.Need-same-length
 same-length c = search needs
 
--- src/lib.rt:250:1
 same-length-2 : tie.Need-same-length-2
 same-length-2 c = search needs
 
--- src/lib.rt:250:1
 returns-2 : tie.Need-returns-2
 returns-2 c = (c .before .before .before .before .execute-instruction .ensures .0 ∙ decode-passed _ _ _ _ _ _ _ (c .before .before .before .before .before .before .before .before .before .before .before .before .before .before .before .before .before .before .before .before .before .before .before .pre .0) (sym (c .before .before .before .before .before .before .before .before .before .before .before .before .before .before .before .before .before .before .is-fetch-violation .ensures .0) ∙ c .before .before .before .before .before .before .before .before .before .before .before .before .before .before .before .before .before .if1 .left) (rw (c .before .before .before .before .before .before .before .before .before .before .before .raise-ic2 .ensures .0, c .before .before .before .before .before .before .before .before .before .before .before .before .before .before .before .before .before .before .is-fetch-violation .ensures .1 .0) at (c .before .before .before .before .before .before .before .before .before .set-pending .ensures .0)) (c .before .before .before .before .before .before .before .before .before .before .before .before .before .before .before .before .of-word .ensures) (rw (c .before .before .before .before .before .before .before .before .before .before .before .before .before .before .before .before .before .before .is-fetch-violation .ensures .1 .0) at (c .before .before .before .before .before .before .before .before .before .before .before .before .before .address .ensures .0)), (search needs, search needs))
 
