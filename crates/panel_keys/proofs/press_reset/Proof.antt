@@ -1,7 +1,7 @@
 use Rattle.definition_runs.specs.Keys.{pressingReset}
 use borrow.Author.Needs.{needs}
-use Rattle.rc4000.proofs.press_reset.Statement.{statement}
-use Rattle.rc4000.proofs.press_reset.Tie as tie
+use Rattle.panel_keys.proofs.press_reset.Statement.{statement}
+use Rattle.panel_keys.proofs.press_reset.Tie as tie
 
 judge-machine-requires : tie.Need-judge-machine-requires
 judge-machine-requires c κs = search needs

@@ -1,8 +1,7 @@
-use Rattle.definition_runs.specs.Keys.{autoloadRecord}
 use borrow.Author.Needs.{needs}
 use Rattle.definition_runs.specs.Keys.{autoloadRecord}
-use Rattle.rc4000.proofs.autoload_record.Statement.{statement}
-use Rattle.rc4000.proofs.autoload_record.Tie as tie
+use Rattle.panel_keys.proofs.autoload_record.Statement.{statement}
+use Rattle.panel_keys.proofs.autoload_record.Tie as tie
 
 returns : tie.Need-returns
 unfolding autoloadRecord

@@ -1,8 +1,8 @@
 use mathlib.Core.Path.{sym, _∙_}
-use Rattle.rc4000.proofs.Laws.{fits-a-key, key-accepted, key-rejected}
+use Rattle.panel_keys.proofs.Laws.{fits-a-key, key-accepted, key-rejected}
 use borrow.Author.Needs.{needs}
-use Rattle.rc4000.proofs.press_autoload.Statement.{statement}
-use Rattle.rc4000.proofs.press_autoload.Tie as tie
+use Rattle.panel_keys.proofs.press_autoload.Statement.{statement}
+use Rattle.panel_keys.proofs.press_autoload.Tie as tie
 
 judge-autoload-requires : tie.Need-judge-autoload-requires
 judge-autoload-requires c κs = search needs

@@ -1,7 +1,7 @@
-use Rattle.rc4000.proofs.Laws.{narrow, key-made}
+use Rattle.panel_keys.proofs.Laws.{narrow, key-made}
 use borrow.Author.Needs.{needs}
-use Rattle.rc4000.proofs.autoload.Statement.{statement}
-use Rattle.rc4000.proofs.autoload.Tie as tie
+use Rattle.panel_keys.proofs.autoload.Statement.{statement}
+use Rattle.panel_keys.proofs.autoload.Tie as tie
 
 autoload-record-requires : tie.Need-autoload-record-requires
 autoload-record-requires c κs = search needs

@@ -1,8 +1,8 @@
 use Rattle.definition_instructions.specs.Machine.{resetSystem}
 use Rattle.definition_runs.specs.Keys.{resetKey}
 use borrow.Author.Needs.{needs}
-use Rattle.rc4000.proofs.reset_key.Statement.{statement}
-use Rattle.rc4000.proofs.reset_key.Tie as tie
+use Rattle.panel_keys.proofs.reset_key.Statement.{statement}
+use Rattle.panel_keys.proofs.reset_key.Tie as tie
 
 returns : tie.Need-returns
 unfolding resetKey

@@ -1,7 +1,7 @@
 use Rattle.definition_runs.specs.Keys.{startKey}
 use borrow.Author.Needs.{needs}
-use Rattle.rc4000.proofs.start_key.Statement.{statement}
-use Rattle.rc4000.proofs.start_key.Tie as tie
+use Rattle.panel_keys.proofs.start_key.Statement.{statement}
+use Rattle.panel_keys.proofs.start_key.Tie as tie
 
 word-at-requires : tie.Need-word-at-requires
 word-at-requires c κs = search needs

@@ -1,9 +1,9 @@
 use borrow.Author.Tests.{le-leb}
 use Rattle.definition_instructions.specs.Channel.{fourLeft}
-use Rattle.rc4000.proofs.Laws.{key-in-reset, key-short, key-elsewhere}
+use Rattle.panel_keys.proofs.Laws.{key-in-reset, key-short, key-elsewhere}
 use borrow.Author.Needs.{needs}
-use Rattle.rc4000.proofs.autoload_key.Statement.{statement}
-use Rattle.rc4000.proofs.autoload_key.Tie as tie
+use Rattle.panel_keys.proofs.autoload_key.Statement.{statement}
+use Rattle.panel_keys.proofs.autoload_key.Tie as tie
 
 autoload-requires : tie.Need-autoload-requires
 unfolding fourLeft

@@ -1,7 +1,7 @@
 use Rattle.definition_runs.specs.Keys.{startRecord}
 use borrow.Author.Needs.{needs}
-use Rattle.rc4000.proofs.start_record.Statement.{statement}
-use Rattle.rc4000.proofs.start_record.Tie as tie
+use Rattle.panel_keys.proofs.start_record.Statement.{statement}
+use Rattle.panel_keys.proofs.start_record.Tie as tie
 
 mul-t4 : tie.Need-mul-t4
 mul-t4 c = search needs
