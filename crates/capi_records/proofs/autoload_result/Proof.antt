@@ -1,6 +1,6 @@
 use borrow.Author.Needs.{needs}
-use Rattle.capi.proofs.autoload_result.Statement.{statement}
-use Rattle.capi.proofs.autoload_result.Tie as tie
+use Rattle.capi_records.proofs.autoload_result.Statement.{statement}
+use Rattle.capi_records.proofs.autoload_result.Tie as tie
 
 enum-known-v : tie.Need-enum-known-v
 enum-known-v c = search needs

@@ -13,9 +13,9 @@ use Rattle.tape.specs.Layout.{recordsWithin, recordsOf}
 use Rattle.tape.specs.Judge.{judgeRecords, judgeTape}
 use Rattle.tape.specs.Load.{judgeLoad, loading}
 use Rattle.tape.specs.Examples.{opened, scopeTape}
-use Rattle.capi.specs.declared.ControlRecord.{ControlRecord}
-use Rattle.capi.specs.declared.StateResult.{StateResult}
-use Rattle.capi.specs.Results.{flagsFit, flagByte, controlIn, recordOf, judgeFlags, refusedRun, refusedState, Returned, returned, runReturned, runCall, resetCall, startCall, autoloadCall, loadCall}
+use Rattle.capi_records.specs.declared.ControlRecord.{ControlRecord}
+use Rattle.capi_records.specs.declared.StateResult.{StateResult}
+use Rattle.capi_records.specs.Results.{flagsFit, flagByte, controlIn, recordOf, judgeFlags, refusedRun, refusedState, Returned, returned, runReturned, runCall, resetCall, startCall, autoloadCall, loadCall}
 
 -- a record with the flag bytes m, e and r, and the record with such flags
 abbrev bytes : ℕ → ℕ → ℕ → ControlRecord

@@ -1,6 +1,6 @@
 use borrow.Author.Needs.{needs}
-use Rattle.capi.proofs.run_result.Statement.{statement}
-use Rattle.capi.proofs.run_result.Tie as tie
+use Rattle.capi_records.proofs.run_result.Statement.{statement}
+use Rattle.capi_records.proofs.run_result.Tie as tie
 
 enum-known-a : tie.Need-enum-known-a
 enum-known-a c = search needs

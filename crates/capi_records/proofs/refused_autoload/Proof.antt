@@ -1,6 +1,6 @@
 use borrow.Author.Needs.{needs}
-use Rattle.capi.proofs.refused_autoload.Statement.{statement}
-use Rattle.capi.proofs.refused_autoload.Tie as tie
+use Rattle.capi_records.proofs.refused_autoload.Statement.{statement}
+use Rattle.capi_records.proofs.refused_autoload.Tie as tie
 
 number-requires : tie.Need-number-requires
 number-requires c κs = search needs

@@ -1,7 +1,7 @@
-use Rattle.capi.specs.Results.{flagsFit}
+use Rattle.capi_records.specs.Results.{flagsFit}
 use borrow.Author.Tests.{lt-ltb, le-ltb}
-use Rattle.capi.proofs.ControlRecord.flags_fit.Statement.{statement}
-use Rattle.capi.proofs.ControlRecord.flags_fit.Tie as tie
+use Rattle.capi_records.proofs.ControlRecord.flags_fit.Statement.{statement}
+use Rattle.capi_records.proofs.ControlRecord.flags_fit.Tie as tie
 
 returns : tie.Need-returns
 unfolding flagsFit

@@ -25,11 +25,11 @@ use Rattle.definition_runs.specs.Lent as Lent
 use Rattle.definition_runs.specs.Lent.{runLent, KeyReturned, autoloadLent}
 use Rattle.tape.specs.Load.{judgeThen, Loaded, loading}
 use Rattle.tape.specs.declared.Span.{Span}
-use Rattle.capi.specs.declared.ControlRecord.{ControlRecord}
-use Rattle.capi.specs.declared.RunResult.{RunResult}
-use Rattle.capi.specs.declared.StateResult.{StateResult}
-use Rattle.capi.specs.declared.AutoloadResult.{AutoloadResult}
-use Rattle.capi.specs.declared.TextResult.{TextResult}
+use Rattle.capi_records.specs.declared.ControlRecord.{ControlRecord}
+use Rattle.capi_records.specs.declared.CallResult.{CallResult}
+use Rattle.capi_records.specs.declared.StateResult.{StateResult}
+use Rattle.capi_records.specs.declared.AutoloadResult.{AutoloadResult}
+use Rattle.capi_records.specs.declared.TextResult.{TextResult}
 
 -- ---- the control record: a flag crosses as a byte
 
@@ -73,11 +73,11 @@ returned r s = record { result = r; cells = s }
 
 -- store and typing buffer beside the struct
 pub record RunReturned : Type 0 where
-  pub result : RunResult
+  pub result : CallResult
   pub cells : List ℕ
   pub typing : List ℕ
 
-abbrev pub runReturned : RunResult → List ℕ → List ℕ → RunReturned
+abbrev pub runReturned : CallResult → List ℕ → List ℕ → RunReturned
 runReturned r s t = record { result = r; cells = s; typing = t }
 
 -- 1 spent, 2 reset, 3 interrupted by an exception, 4 interrupted by a line
@@ -94,7 +94,7 @@ outcomeNumber Reset = 0
 outcomeNumber (Interrupted k) = kindNumber k
 
 -- a refused run: outcome 0 and the refusal's number, the record r and the device buffer registers d as given; counts, taken and typed zero
-abbrev pub refusedRun : Refusal → ControlRecord → Devices → RunResult
+abbrev pub refusedRun : Refusal → ControlRecord → Devices → CallResult
 refusedRun q r d = record { control = r; outcome = 0; number = refusalNumber q; executed = 0; entries = 0; devices = d; taken = 0; typed = 0 }
 
 -- a refused key or tape: the record r as given
@@ -102,7 +102,7 @@ abbrev pub refusedState : Refusal → ControlRecord → StateResult
 refusedState q r = record { control = r; refusal = refusalNumber q }
 
 -- what the run x handed back, by its answer
-abbrev pub resultBy : Answer → ControlRecord → Devices → Run → RunResult
+abbrev pub resultBy : Answer → ControlRecord → Devices → Run → CallResult
 resultBy (Refused q) r d x = refusedRun q r d
 resultBy (Ended o) r d x =
     record {

@@ -1,7 +1,7 @@
-use Rattle.capi.specs.Results.{recordOf}
+use Rattle.capi_records.specs.Results.{recordOf}
 use borrow.Author.Needs.{needs}
-use Rattle.capi.proofs.ControlRecord.of.Statement.{statement}
-use Rattle.capi.proofs.ControlRecord.of.Tie as tie
+use Rattle.capi_records.proofs.ControlRecord.of.Statement.{statement}
+use Rattle.capi_records.proofs.ControlRecord.of.Tie as tie
 
 flag-byte-requires : tie.Need-flag-byte-requires
 flag-byte-requires c κs = search needs

@@ -1,7 +1,7 @@
 use borrow.Author.Needs.{needs}
-use Rattle.capi.specs.Results.{flagByte}
-use Rattle.capi.proofs.flag_byte.Statement.{statement}
-use Rattle.capi.proofs.flag_byte.Tie as tie
+use Rattle.capi_records.specs.Results.{flagByte}
+use Rattle.capi_records.proofs.flag_byte.Statement.{statement}
+use Rattle.capi_records.proofs.flag_byte.Tie as tie
 
 returns : tie.Need-returns
 unfolding flagByte

@@ -1,7 +1,7 @@
-use Rattle.capi.specs.Results.{judgeFlags}
+use Rattle.capi_records.specs.Results.{judgeFlags}
 use borrow.Author.Needs.{needs}
-use Rattle.capi.proofs.judge_flags.Statement.{statement}
-use Rattle.capi.proofs.judge_flags.Tie as tie
+use Rattle.capi_records.proofs.judge_flags.Statement.{statement}
+use Rattle.capi_records.proofs.judge_flags.Tie as tie
 
 flags-fit-requires : tie.Need-flags-fit-requires
 flags-fit-requires c κs = search needs
