@@ -1,230 +1,14 @@
-// The C calls (host/include/rc4000.h). Enums do not cross: an outcome is two numbers, a verdict is one. A flag that comes in is a byte, which is tested; `found` only goes out.
+// The C calls (host/include/rc4000.h): the public calls, with the records of `capi_records` in and out. Flag bytes are tested first, save by a load.
 ghost use mathlib.Core.Path.{_≡_};
 ghost use Rattle.tape.specs.Remark.{remarkSpan};
-ghost use Rattle.capi.specs.Results.{flagByte, flagsFit, controlIn, recordOf, judgeFlags, outcomeCode, outcomeNumber, resultBy, refusedRun, stateBy, refusedState, autoloadedBy, refusedAutoload, returned, runReturned, runCall, resetCall, startCall, autoloadCall, loadCall, textOf};
-use machine::Answer;
-use machine::Autoloaded;
-use machine::Control;
+ghost use Rattle.capi_records.specs.Results.{returned, runReturned, runCall, resetCall, startCall, autoloadCall, loadCall, textOf};
+use capi_records::AutoloadResult;
+use capi_records::CallResult;
+use capi_records::ControlRecord;
+use capi_records::StateResult;
+use capi_records::TextResult;
 use machine::Devices;
-use machine::Kind;
-use machine::Outcome;
-use machine::Refusal;
-use machine::Run;
-use machine::State;
 use machine::Verdict;
-
-// The control record as it crosses.
-#[repr(C)]
-pub struct ControlRecord {
-    pub ic: u32,
-    pub ir: u32,
-    pub im: u32,
-    pub pending: u32,
-    pub pr: u32,
-    pub ex: u32,
-    pub monitor: u8,
-    pub enabled: u8,
-    pub reset: u8,
-}
-
-#[repr(C)]
-pub struct RunResult {
-    pub control: ControlRecord,
-    pub outcome: u32,
-    pub number: u32,
-    pub executed: u32,
-    pub entries: u32,
-    pub devices: Devices,
-    pub taken: usize,
-    pub typed: usize,
-}
-
-#[repr(C)]
-pub struct StateResult {
-    pub control: ControlRecord,
-    pub refusal: u32,
-}
-
-#[repr(C)]
-pub struct AutoloadResult {
-    pub control: ControlRecord,
-    pub refusal: u32,
-    pub devices: Devices,
-    pub taken: usize,
-}
-
-#[repr(C)]
-pub struct TextResult {
-    pub refusal: u32,
-    pub found: bool,
-    pub start: usize,
-    pub end: usize,
-}
-
-fn flag_byte(f: bool) -> u8
-    ensures { λ r. ⌜ r ≡ flagByte f ⌝ }
-{
-    if f { 1 } else { 0 }
-}
-
-impl ControlRecord {
-    // Each flag byte is 0 or 1.
-    fn flags_fit(self) -> bool
-        ensures { λ r. ⌜ r ≡ flagsFit self ⌝ }
-    {
-        if self.monitor < 2 {
-            if self.enabled < 2 {
-                return self.reset < 2;
-            }
-            return false;
-        }
-        false
-    }
-
-    fn control(self) -> Control
-        ensures { λ r. ⌜ r ≡ controlIn self ⌝ }
-    {
-        Control {
-            ic: self.ic,
-            ir: self.ir,
-            im: self.im,
-            pending: self.pending,
-            pr: self.pr,
-            ex: self.ex,
-            monitor: self.monitor == 1,
-            enabled: self.enabled == 1,
-            reset: self.reset == 1,
-        }
-    }
-
-    fn of(c: Control) -> ControlRecord
-        ensures { λ r. ⌜ r ≡ recordOf c ⌝ }
-    {
-        ControlRecord {
-            ic: c.ic,
-            ir: c.ir,
-            im: c.im,
-            pending: c.pending,
-            pr: c.pr,
-            ex: c.ex,
-            monitor: flag_byte(c.monitor),
-            enabled: flag_byte(c.enabled),
-            reset: flag_byte(c.reset),
-        }
-    }
-}
-
-// 3 for a flag byte over 1, after the store's 1 and 2. With good flag bytes the store is not looked at: the call itself does that.
-fn judge_flags(store: &[u32], r: ControlRecord) -> Verdict
-    ensures { λ v. ⌜ v ≡ judgeFlags (now (store .entry)) r ⌝ }
-{
-    if r.flags_fit() {
-        return Verdict::Accepted;
-    }
-    let v = acceptance::judge_store(store);
-    match v {
-        Verdict::Accepted => Verdict::Rejected(Refusal::ControlField),
-        Verdict::Rejected(q) => Verdict::Rejected(q),
-    }
-}
-
-fn interruption_code(k: Kind) -> u32
-    ensures { λ r. ⌜ r ≡ outcomeCode (Outcome.Interrupted k) ⌝ }
-{
-    match k {
-        Kind::Exception => 3,
-        Kind::Line(_) => 4,
-    }
-}
-
-fn outcome_code(o: Outcome) -> u32
-    ensures { λ r. ⌜ r ≡ outcomeCode o ⌝ }
-{
-    match o {
-        Outcome::Spent => 1,
-        Outcome::Reset => 2,
-        Outcome::Interrupted(k) => interruption_code(k),
-    }
-}
-
-fn outcome_number(o: Outcome) -> u32
-    ensures { λ r. ⌜ r ≡ outcomeNumber o ⌝ }
-{
-    match o {
-        Outcome::Spent => 0,
-        Outcome::Reset => 0,
-        Outcome::Interrupted(k) => k.number(),
-    }
-}
-
-fn refused_run(q: Refusal, r: ControlRecord, d: Devices) -> RunResult
-    ensures { λ x. ⌜ x ≡ refusedRun q r d ⌝ }
-{
-    let n = q.number();
-    RunResult {
-        control: r,
-        outcome: 0,
-        number: n,
-        executed: 0,
-        entries: 0,
-        devices: d,
-        taken: 0,
-        typed: 0,
-    }
-}
-
-fn run_result(x: Run, r: ControlRecord, given: Devices) -> RunResult
-    ensures { λ y. ⌜ y ≡ resultBy (x .answer) r given x ⌝ }
-{
-    let a = x.answer;
-    match a {
-        Answer::Refused(q) => refused_run(q, r, given),
-        Answer::Ended(o) => {
-            let c = x.control;
-            let d = ControlRecord::of(c);
-            let k = outcome_code(o);
-            let n = outcome_number(o);
-            let v = x.devices;
-            RunResult {
-                control: d,
-                outcome: k,
-                number: n,
-                executed: x.executed,
-                entries: x.entries,
-                devices: v,
-                taken: x.taken,
-                typed: x.typed,
-            }
-        }
-    }
-}
-
-fn refused_state(q: Refusal, r: ControlRecord) -> StateResult
-    ensures { λ x. ⌜ x ≡ refusedState q r ⌝ }
-{
-    let n = q.number();
-    StateResult {
-        control: r,
-        refusal: n,
-    }
-}
-
-fn state_result(x: State, r: ControlRecord) -> StateResult
-    ensures { λ y. ⌜ y ≡ stateBy (x .verdict) r (x .control) ⌝ }
-{
-    let v = x.verdict;
-    match v {
-        Verdict::Rejected(q) => refused_state(q, r),
-        Verdict::Accepted => {
-            let c = x.control;
-            let after = ControlRecord::of(c);
-            StateResult {
-                control: after,
-                refusal: 0,
-            }
-        }
-    }
-}
 
 #[no_mangle]
 pub extern "C" fn rc4000_run(
@@ -235,17 +19,17 @@ pub extern "C" fn rc4000_run(
     devices: Devices,
     characters: &[u8],
     typing: &mut [u8],
-) -> RunResult
+) -> CallResult
     ensures { λ r. ⌜ runReturned r (now (store .exit)) (now (typing .exit)) ≡ runCall lines budget (now (store .entry)) control devices (now (characters .entry)) (now (typing .entry)) ⌝ }
 {
-    let v = judge_flags(store, control);
+    let v = capi_records::judge_flags(store, control);
     match v {
         Verdict::Accepted => {
             let c = control.control();
             let x = rc4000::run(store, c, lines, budget, devices, characters, typing);
-            run_result(x, control, devices)
+            capi_records::run_result(x, control, devices)
         }
-        Verdict::Rejected(q) => refused_run(q, control, devices),
+        Verdict::Rejected(q) => capi_records::refused_run(q, control, devices),
     }
 }
 
@@ -253,14 +37,14 @@ pub extern "C" fn rc4000_run(
 pub extern "C" fn rc4000_press_reset(store: &mut [u32], control: ControlRecord) -> StateResult
     ensures { λ r. ⌜ returned r (now (store .exit)) ≡ resetCall (now (store .entry)) control ⌝ }
 {
-    let v = judge_flags(store, control);
+    let v = capi_records::judge_flags(store, control);
     match v {
         Verdict::Accepted => {
             let c = control.control();
             let x = rc4000::press_reset(store, c);
-            state_result(x, control)
+            capi_records::state_result(x, control)
         }
-        Verdict::Rejected(q) => refused_state(q, control),
+        Verdict::Rejected(q) => capi_records::refused_state(q, control),
     }
 }
 
@@ -268,46 +52,14 @@ pub extern "C" fn rc4000_press_reset(store: &mut [u32], control: ControlRecord) 
 pub extern "C" fn rc4000_press_start(store: &mut [u32], control: ControlRecord) -> StateResult
     ensures { λ r. ⌜ returned r (now (store .exit)) ≡ startCall (now (store .entry)) control ⌝ }
 {
-    let v = judge_flags(store, control);
+    let v = capi_records::judge_flags(store, control);
     match v {
         Verdict::Accepted => {
             let c = control.control();
             let x = rc4000::press_start(store, c);
-            state_result(x, control)
+            capi_records::state_result(x, control)
         }
-        Verdict::Rejected(q) => refused_state(q, control),
-    }
-}
-
-fn refused_autoload(q: Refusal, r: ControlRecord, d: Devices) -> AutoloadResult
-    ensures { λ x. ⌜ x ≡ refusedAutoload q r d ⌝ }
-{
-    let n = q.number();
-    AutoloadResult {
-        control: r,
-        refusal: n,
-        devices: d,
-        taken: 0,
-    }
-}
-
-fn autoload_result(x: Autoloaded, r: ControlRecord, given: Devices) -> AutoloadResult
-    ensures { λ y. ⌜ y ≡ autoloadedBy (x .verdict) r given x ⌝ }
-{
-    let v = x.verdict;
-    match v {
-        Verdict::Rejected(q) => refused_autoload(q, r, given),
-        Verdict::Accepted => {
-            let c = x.control;
-            let after = ControlRecord::of(c);
-            let d = x.devices;
-            AutoloadResult {
-                control: after,
-                refusal: 0,
-                devices: d,
-                taken: x.taken,
-            }
-        }
+        Verdict::Rejected(q) => capi_records::refused_state(q, control),
     }
 }
 
@@ -320,14 +72,14 @@ pub extern "C" fn rc4000_press_autoload(
 ) -> AutoloadResult
     ensures { λ r. ⌜ returned r (now (store .exit)) ≡ autoloadCall (now (store .entry)) control devices (now (characters .entry)) ⌝ }
 {
-    let v = judge_flags(store, control);
+    let v = capi_records::judge_flags(store, control);
     match v {
         Verdict::Accepted => {
             let c = control.control();
             let x = rc4000::press_autoload(store, c, devices, characters);
-            autoload_result(x, control, devices)
+            capi_records::autoload_result(x, control, devices)
         }
-        Verdict::Rejected(q) => refused_autoload(q, control, devices),
+        Verdict::Rejected(q) => capi_records::refused_autoload(q, control, devices),
     }
 }
 
@@ -337,7 +89,7 @@ pub extern "C" fn rc4000_load(store: &mut [u32], control: ControlRecord, tape: &
 {
     let c = control.control();
     let x = rc4000::load(store, c, tape);
-    state_result(x, control)
+    capi_records::state_result(x, control)
 }
 
 #[no_mangle]

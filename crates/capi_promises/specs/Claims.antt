@@ -8,14 +8,14 @@ use lib.Dec.{eqb, ltb}
 use lib.ListN.{length}
 use Rattle.machine.specs.declared.Devices.{Devices}
 use Rattle.acceptance.specs.Accept.{sizeFits, cellsFit, controlFits, devicesFit}
-use Rattle.capi.specs.declared.ControlRecord.{ControlRecord}
-use Rattle.capi.specs.declared.RunResult.{RunResult}
-use Rattle.capi.specs.declared.StateResult.{StateResult}
-use Rattle.capi.specs.declared.AutoloadResult.{AutoloadResult}
-use Rattle.capi.specs.Results.{flagsFit, controlIn, Returned, RunReturned, runCall, resetCall, startCall, autoloadCall, loadCall}
+use Rattle.capi_records.specs.declared.ControlRecord.{ControlRecord}
+use Rattle.capi_records.specs.declared.CallResult.{CallResult}
+use Rattle.capi_records.specs.declared.StateResult.{StateResult}
+use Rattle.capi_records.specs.declared.AutoloadResult.{AutoloadResult}
+use Rattle.capi_records.specs.Results.{flagsFit, controlIn, Returned, RunReturned, runCall, resetCall, startCall, autoloadCall, loadCall}
 
 -- the number of a run's refusal, 0 where the run is not refused
-abbrev pub numberOf : RunResult → ℕ
+abbrev pub numberOf : CallResult → ℕ
 numberOf x = cond (eqb (x .outcome) 0) (x .number) 0
 
 -- refusal 13 does not apply

@@ -1,4 +1,4 @@
-use Rattle.capi.specs.Results.{loadCall}
+use Rattle.capi_records.specs.Results.{loadCall}
 use borrow.Author.Needs.{needs}
 use Rattle.capi.proofs.rc4000_load.Statement.{statement}
 use Rattle.capi.proofs.rc4000_load.Tie as tie

@@ -1,4 +1,4 @@
-use Rattle.capi.specs.Results.{autoloadCall}
+use Rattle.capi_records.specs.Results.{autoloadCall}
 use borrow.Author.Needs.{needs}
 use Rattle.capi.proofs.rc4000_press_autoload.Statement.{statement}
 use Rattle.capi.proofs.rc4000_press_autoload.Tie as tie

@@ -1,4 +1,4 @@
-use Rattle.capi.specs.Results.{resetCall}
+use Rattle.capi_records.specs.Results.{resetCall}
 use borrow.Author.Needs.{needs}
 use Rattle.capi.proofs.rc4000_press_reset.Statement.{statement}
 use Rattle.capi.proofs.rc4000_press_reset.Tie as tie

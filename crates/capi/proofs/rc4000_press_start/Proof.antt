@@ -1,4 +1,4 @@
-use Rattle.capi.specs.Results.{startCall}
+use Rattle.capi_records.specs.Results.{startCall}
 use borrow.Author.Needs.{needs}
 use Rattle.capi.proofs.rc4000_press_start.Statement.{statement}
 use Rattle.capi.proofs.rc4000_press_start.Tie as tie

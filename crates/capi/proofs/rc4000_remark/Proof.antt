@@ -1,4 +1,4 @@
-use Rattle.capi.specs.Results.{textOf}
+use Rattle.capi_records.specs.Results.{textOf}
 use borrow.Author.Needs.{needs}
 use Rattle.capi.proofs.rc4000_remark.Statement.{statement}
 use Rattle.capi.proofs.rc4000_remark.Tie as tie

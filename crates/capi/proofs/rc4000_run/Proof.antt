@@ -1,4 +1,4 @@
-use Rattle.capi.specs.Results.{runCall}
+use Rattle.capi_records.specs.Results.{runCall}
 use borrow.Author.Needs.{needs}
 use Rattle.capi.proofs.rc4000_run.Statement.{statement}
 use Rattle.capi.proofs.rc4000_run.Tie as tie

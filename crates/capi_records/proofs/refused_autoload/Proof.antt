@@ -1,0 +1,12 @@
+use borrow.Author.Needs.{needs}
+use Rattle.capi_records.proofs.refused_autoload.Statement.{statement}
+use Rattle.capi_records.proofs.refused_autoload.Tie as tie
+
+number-requires : tie.Need-number-requires
+number-requires c κs = search needs
+
+returns : tie.Need-returns
+returns c = rw (← (c .number .ensures))
+
+pub refused-autoload-spec : {M : Type 1} → statement M
+refused-autoload-spec = tie.close (tie.spec number-requires returns)

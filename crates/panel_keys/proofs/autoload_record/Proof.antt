@@ -1,0 +1,11 @@
+use borrow.Author.Needs.{needs}
+use Rattle.definition_runs.specs.Keys.{autoloadRecord}
+use Rattle.panel_keys.proofs.autoload_record.Statement.{statement}
+use Rattle.panel_keys.proofs.autoload_record.Tie as tie
+
+returns : tie.Need-returns
+unfolding autoloadRecord
+returns c = search needs
+
+pub autoload-record-spec : {M : Type 1} → statement M
+autoload-record-spec = tie.close (tie.spec returns)
