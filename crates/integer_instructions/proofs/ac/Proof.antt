@@ -23,16 +23,16 @@ same-length c = search needs
 
 returns : tie.Need-returns
 unfolding execute executeOperation meaning microSteps microStep monitorSteps monitorStep
-returns c =
-    let b4 = c .before .before .before .before in (
+returns c = (
+  let b4 = c .before .before .before .before in
       rw (
         ← (b4 .before .before .before .clear-flags .ensures .0),
         ← (b4 .before .before .subtract .ensures .0),
         ← (b4 .put-word .ensures),
         ← (c .test-integer .ensures .0),
       ),
-      search needs,
-    )
+  search needs,
+)
 
 pub ac-spec : {M : Type 1} → statement M
 ac-spec =

@@ -26,9 +26,9 @@ same-length c = search needs
 
 returns : tie.Need-returns
 unfolding execute executeOperation meaning microSteps microStep monitorSteps monitorStep
-returns c =
-    let b4 = c .before .before .before .before in
-    let b8 = b4 .before .before .before .before in (
+returns c = (
+  let b4 = c .before .before .before .before in
+      let b8 = b4 .before .before .before .before in
       rw (
         ← (b8 .before .clear-flags .ensures .0),
         ← (b4 .before .before .before .pair-at .ensures .0),
@@ -36,8 +36,8 @@ returns c =
         ← (b4 .note-overflow .ensures .0),
         ← (c .before .before .put-pair .ensures),
       ),
-      search needs,
-    )
+  search needs,
+)
 
 pub ad-spec : {M : Type 1} → statement M
 ad-spec =

@@ -20,9 +20,11 @@ same-length c = search needs
 
 returns : tie.Need-returns
 unfolding execute executeOperation meaning microSteps microStep monitorSteps monitorStep
-returns c =
-    let b4 = c .before .before .before .before in
-    (rw (← (b4 .before .pair-at .ensures .0), ← (b4 .logical48 .ensures .0), ← (c .before .before .put-pair .ensures)), search needs)
+returns c = (
+  let b4 = c .before .before .before .before in
+      rw (← (b4 .before .pair-at .ensures .0), ← (b4 .logical48 .ensures .0), ← (c .before .before .put-pair .ensures)),
+  search needs,
+)
 
 pub ld-spec : {M : Type 1} → statement M
 ld-spec =

@@ -33,9 +33,9 @@ same-length-2 c = search needs
 
 returns-2 : tie.Need-returns-2
 unfolding execute executeOperation meaning microSteps microStep monitorSteps monitorStep
-returns-2 c =
-    let b4 = c .before .before .before .before in
-    let b8 = b4 .before .before .before .before in (
+returns-2 c = (
+  let b4 = c .before .before .before .before in
+      let b8 = b4 .before .before .before .before in
       rw (
         ← (b8 .before .before .is-absent .ensures),
         b8 .before .if1 .left,
@@ -44,8 +44,8 @@ returns-2 c =
         ← (b4 .or24 .ensures .0),
         ← (c .before .before .put-word .ensures),
       ),
-      search needs,
-    )
+  search needs,
+)
 
 pub lo-spec : {M : Type 1} → statement M
 lo-spec =

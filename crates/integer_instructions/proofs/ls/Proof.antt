@@ -20,9 +20,11 @@ same-length c = search needs
 
 returns : tie.Need-returns
 unfolding execute executeOperation meaning microSteps microStep monitorSteps monitorStep
-returns c =
-    let b4 = c .before .before .before .before in
-    (rw (← (b4 .before .word-at .ensures .0), ← (b4 .logical24 .ensures .0), ← (c .before .before .put-word .ensures)), search needs)
+returns c = (
+  let b4 = c .before .before .before .before in
+      rw (← (b4 .before .word-at .ensures .0), ← (b4 .logical24 .ensures .0), ← (c .before .before .put-word .ensures)),
+  search needs,
+)
 
 pub ls-spec : {M : Type 1} → statement M
 ls-spec =

@@ -23,9 +23,9 @@ same-length c = search needs
 
 returns : tie.Need-returns
 unfolding execute executeOperation meaning microSteps microStep monitorSteps monitorStep
-returns c =
-    let b4 = c .before .before .before .before in
-    let b8 = b4 .before .before .before .before in (
+returns c = (
+  let b4 = c .before .before .before .before in
+      let b8 = b4 .before .before .before .before in
       rw (
         ← (b8 .pair-at .ensures .0),
         ← (b4 .before .before .before .normalize-double .ensures .0),
@@ -33,8 +33,8 @@ returns c =
         ← (c .before .is-absent .ensures),
         c .if1 .taken,
       ),
-      search needs,
-    )
+  search needs,
+)
 
 is-violation-requires : tie.Need-is-violation-requires
 is-violation-requires c κs = search needs
@@ -44,10 +44,10 @@ same-length-2 c = search needs
 
 returns-2 : tie.Need-returns-2
 unfolding execute executeOperation meaning microSteps microStep monitorSteps monitorStep
-returns-2 c =
-    let b4 = c .before .before .before .before in
-    let b8 = b4 .before .before .before .before in
-    let b12 = b8 .before .before .before .before in (
+returns-2 c = (
+  let b4 = c .before .before .before .before in
+      let b8 = b4 .before .before .before .before in
+      let b12 = b8 .before .before .before .before in
       rw (
         ← (b12 .pair-at .ensures .0),
         ← (b8 .before .before .before .normalize-double .ensures .0),
@@ -57,8 +57,8 @@ returns-2 c =
         ← (c .before .is-violation .ensures),
         c .if2 .taken,
       ),
-      search needs,
-    )
+  search needs,
+)
 
 put-byte-requires : tie.Need-put-byte-requires
 put-byte-requires c κs = search needs
@@ -68,11 +68,11 @@ same-length-3 c = search needs
 
 returns-3 : tie.Need-returns-3
 unfolding execute executeOperation meaning microSteps microStep monitorSteps monitorStep
-returns-3 c =
-    let b4 = c .before .before .before .before in
-    let b8 = b4 .before .before .before .before in
-    let b12 = b8 .before .before .before .before in
-    let b16 = b12 .before .before .before .before in (
+returns-3 c = (
+  let b4 = c .before .before .before .before in
+      let b8 = b4 .before .before .before .before in
+      let b12 = b8 .before .before .before .before in
+      let b16 = b12 .before .before .before .before in
       rw (
         ← (b16 .pair-at .ensures .0),
         ← (b12 .before .before .before .normalize-double .ensures .0),
@@ -83,8 +83,8 @@ returns-3 c =
         b4 .if2 .left,
         ← (c .before .before .put-byte .ensures),
       ),
-      search needs,
-    )
+  search needs,
+)
 
 pub nd-spec : {M : Type 1} → statement M
 nd-spec =

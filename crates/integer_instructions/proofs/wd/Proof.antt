@@ -48,12 +48,12 @@ same-length-2 c = search needs
 
 returns-2 : tie.Need-returns-2
 unfolding execute executeOperation meaning microSteps microStep monitorSteps monitorStep
-returns-2 c =
-    let b4 = c .before .before .before .before in
-    let b8 = b4 .before .before .before .before in
-    let b12 = b8 .before .before .before .before in
-    let b16 = b12 .before .before .before .before in
-    let b20 = b16 .before .before .before .before in (
+returns-2 c = (
+  let b4 = c .before .before .before .before in
+      let b8 = b4 .before .before .before .before in
+      let b12 = b8 .before .before .before .before in
+      let b16 = b12 .before .before .before .before in
+      let b20 = b16 .before .before .before .before in
       rw (
         ← (b20 .before .clear-flags .ensures .0),
         ← (b16 .before .before .before .is-absent .ensures),
@@ -67,8 +67,8 @@ returns-2 c =
         ← (b4 .before .before .put-word .ensures),
         ← (c .before .before .put-word2 .ensures),
       ),
-      search needs,
-    )
+  search needs,
+)
 
 pub wd-spec : {M : Type 1} → statement M
 wd-spec =

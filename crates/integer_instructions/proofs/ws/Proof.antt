@@ -39,10 +39,10 @@ same-length-2 c = search needs
 
 returns-2 : tie.Need-returns-2
 unfolding execute executeOperation meaning microSteps microStep monitorSteps monitorStep
-returns-2 c =
-    let b4 = c .before .before .before .before in
-    let b8 = b4 .before .before .before .before in
-    let b12 = b8 .before .before .before .before in (
+returns-2 c = (
+  let b4 = c .before .before .before .before in
+      let b8 = b4 .before .before .before .before in
+      let b12 = b8 .before .before .before .before in
       rw (
         ← (b12 .before .before .clear-flags .ensures .0),
         ← (b12 .is-absent .ensures),
@@ -53,8 +53,8 @@ returns-2 c =
         ← (b4 .put-word .ensures),
         ← (c .test-integer .ensures .0),
       ),
-      search needs,
-    )
+  search needs,
+)
 
 pub ws-spec : {M : Type 1} → statement M
 ws-spec =

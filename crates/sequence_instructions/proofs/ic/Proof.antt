@@ -24,16 +24,16 @@ set-ir-requires c κs = search needs
 
 returns-2 : tie.Need-returns-2
 unfolding execute executeOperation meaning microSteps microStep monitorSteps monitorStep
-returns-2 c =
-    let b4 = c .before .before .before .before in (
+returns-2 c = (
+  let b4 = c .before .before .before .before in
       rw (
         ← (b4 .before .before .is-task .ensures),
         b4 .before .if1 .left,
         ← (rw (c .before .before .before .ir .ensures) at (c .before .before .clear24 .ensures .0)),
         ← (c .set-ir .ensures .0),
       ),
-      search needs,
-    )
+  search needs,
+)
 
 pub ic-spec : {M : Type 1} → statement M
 ic-spec =

@@ -21,9 +21,11 @@ same-length c = search needs
 
 returns-2 : tie.Need-returns-2
 unfolding execute executeOperation meaning microSteps microStep monitorSteps monitorStep
-returns-2 c =
-    let b4 = c .before .before .before .before in
-    (rw (← (b4 .is-task .ensures), c .before .before .before .if1 .left, ← (c .before .is-absent .ensures), c .if2 .taken), search needs)
+returns-2 c = (
+  let b4 = c .before .before .before .before in
+      rw (← (b4 .is-task .ensures), c .before .before .before .if1 .left, ← (c .before .is-absent .ensures), c .if2 .taken),
+  search needs,
+)
 
 set-enabled-requires : tie.Need-set-enabled-requires
 set-enabled-requires c κs = search needs
@@ -45,10 +47,10 @@ same-length-2 c = search needs
 
 returns-3 : tie.Need-returns-3
 unfolding execute executeOperation meaning microSteps microStep monitorSteps monitorStep
-returns-3 c =
-    let b4 = c .before .before .before .before in
-    let b8 = b4 .before .before .before .before in
-    let b12 = b8 .before .before .before .before in (
+returns-3 c = (
+  let b4 = c .before .before .before .before in
+      let b8 = b4 .before .before .before .before in
+      let b12 = b8 .before .before .before .before in
       rw (
         ← (b12 .before .before .is-task .ensures),
         b12 .before .if1 .left,
@@ -58,8 +60,8 @@ returns-3 c =
         ← (rw (b4 .before .before .ic .ensures) at (b4 .put-link .ensures)),
         ← (c .set-ic .ensures .0),
       ),
-      search needs,
-    )
+  search needs,
+)
 
 pub jd-spec : {M : Type 1} → statement M
 jd-spec =

@@ -21,9 +21,11 @@ same-length c = search needs
 
 returns-2 : tie.Need-returns-2
 unfolding execute executeOperation meaning microSteps microStep monitorSteps monitorStep
-returns-2 c =
-    let b4 = c .before .before .before .before in
-    (rw (← (b4 .is-task .ensures), c .before .before .before .if1 .left, ← (c .before .is-absent .ensures), c .if2 .taken), search needs)
+returns-2 c = (
+  let b4 = c .before .before .before .before in
+      rw (← (b4 .is-task .ensures), c .before .before .before .if1 .left, ← (c .before .is-absent .ensures), c .if2 .taken),
+  search needs,
+)
 
 word-at-requires : tie.Need-word-at-requires
 word-at-requires c κs = search needs
@@ -36,9 +38,9 @@ same-length-2 c = search needs
 
 returns-3 : tie.Need-returns-3
 unfolding execute executeOperation meaning microSteps microStep monitorSteps monitorStep
-returns-3 c =
-    let b4 = c .before .before .before .before in
-    let b8 = b4 .before .before .before .before in (
+returns-3 c = (
+  let b4 = c .before .before .before .before in
+      let b8 = b4 .before .before .before .before in
       rw (
         ← (b8 .before .before .is-task .ensures),
         b8 .before .if1 .left,
@@ -47,8 +49,8 @@ returns-3 c =
         ← (b4 .word-at .ensures .0),
         ← (c .before .before .put-key .ensures),
       ),
-      search needs,
-    )
+  search needs,
+)
 
 pub ks-spec : {M : Type 1} → statement M
 ks-spec =

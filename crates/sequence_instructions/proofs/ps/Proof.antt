@@ -24,9 +24,11 @@ same-length-2 c = search needs
 
 returns-2 : tie.Need-returns-2
 unfolding execute executeOperation meaning microSteps microStep monitorSteps monitorStep
-returns-2 c =
-    let b4 = c .before .before .before .before in
-    (rw (← (b4 .before .is-absent .ensures), b4 .if1 .left, ← (c .before .is-violation .ensures), c .if2 .taken), search needs)
+returns-2 c = (
+  let b4 = c .before .before .before .before in
+      rw (← (b4 .before .is-absent .ensures), b4 .if1 .left, ← (c .before .is-violation .ensures), c .if2 .taken),
+  search needs,
+)
 
 pr-requires : tie.Need-pr-requires
 pr-requires c κs = search needs
@@ -39,9 +41,9 @@ same-length-3 c = search needs
 
 returns-3 : tie.Need-returns-3
 unfolding execute executeOperation meaning microSteps microStep monitorSteps monitorStep
-returns-3 c =
-    let b4 = c .before .before .before .before in
-    let b8 = b4 .before .before .before .before in (
+returns-3 c = (
+  let b4 = c .before .before .before .before in
+      let b8 = b4 .before .before .before .before in
       rw (
         ← (b8 .before .before .before .is-absent .ensures),
         b8 .before .before .if1 .left,
@@ -49,8 +51,8 @@ returns-3 c =
         b4 .before .before .if2 .left,
         ← (rw (b4 .pr .ensures) at (c .before .before .put-byte .ensures)),
       ),
-      search needs,
-    )
+  search needs,
+)
 
 pub ps-spec : {M : Type 1} → statement M
 ps-spec =

@@ -20,8 +20,14 @@ same-length c = search needs
 
 returns : tie.Need-returns
 unfolding execute executeOperation meaning microSteps microStep monitorSteps monitorStep
-returns c =
-    (rw (← (c .before .before .before .word-at .ensures .0), ← (c .before .before .is-equal .ensures), ← (c .skip-if .ensures .0)), search needs)
+returns c = (
+  rw (
+    ← (c .before .before .before .word-at .ensures .0),
+    ← (c .before .before .is-equal .ensures),
+    ← (c .skip-if .ensures .0),
+  ),
+  search needs,
+)
 
 pub se-spec : {M : Type 1} → statement M
 se-spec =

@@ -15,15 +15,15 @@ set-ic-requires c κs = search needs
 
 returns : tie.Need-returns
 unfolding skipped
-returns c =
-    let b4 = c .before .before .before .before in (
+returns c = (
+  let b4 = c .before .before .before .before in
       rw (
         ← (rw (c .before .before .before .ic .ensures) at (c .before .before .sum24 .ensures .0)),
         ← (c .set-ic .ensures .0),
         b4 .before .if1 .taken,
       ),
-      search needs,
-    )
+  search needs,
+)
 
 returns-2 : tie.Need-returns-2
 unfolding skipped

@@ -27,16 +27,16 @@ same-length-2 c = search needs
 
 returns-2 : tie.Need-returns-2
 unfolding execute executeOperation meaning microSteps microStep monitorSteps monitorStep
-returns-2 c =
-    let b4 = c .before .before .before .before in (
+returns-2 c = (
+  let b4 = c .before .before .before .before in
       rw (
         ← (b4 .before .before .is-absent .ensures),
         b4 .before .if1 .left,
         ← (c .before .before .is-forbidden .ensures),
         ← (c .skip-if .ensures .0),
       ),
-      search needs,
-    )
+  search needs,
+)
 
 pub sp-spec : {M : Type 1} → statement M
 sp-spec =

@@ -17,8 +17,13 @@ skip-if-requires c κs = search needs
 
 returns : tie.Need-returns
 unfolding execute executeOperation meaning microSteps microStep monitorSteps monitorStep
-returns c =
-    (rw (← (rw (c .before .before .before .ex .ensures) at (c .before .before .bits-zero .ensures)), ← (c .skip-if .ensures .0)), search needs)
+returns c = (
+  rw (
+    ← (rw (c .before .before .before .ex .ensures) at (c .before .before .bits-zero .ensures)),
+    ← (c .skip-if .ensures .0),
+  ),
+  search needs,
+)
 
 pub sx-spec : {M : Type 1} → statement M
 sx-spec = tie.close (tie.spec ex-requires bits-zero-requires skip-if-requires returns)

@@ -27,9 +27,16 @@ same-length-2 c = search needs
 
 returns-2 : tie.Need-returns-2
 unfolding execute executeOperation meaning microSteps microStep monitorSteps monitorStep
-returns-2 c =
-    let b4 = c .before .before .before .before in
-    (rw (← (b4 .before .is-absent .ensures), b4 .if1 .left, ← (c .before .before .byte-at .ensures .0), ← (c .set-ex .ensures .0)), search needs)
+returns-2 c = (
+  let b4 = c .before .before .before .before in
+      rw (
+        ← (b4 .before .is-absent .ensures),
+        b4 .if1 .left,
+        ← (c .before .before .byte-at .ensures .0),
+        ← (c .set-ex .ensures .0),
+      ),
+  search needs,
+)
 
 pub xl-spec : {M : Type 1} → statement M
 xl-spec =

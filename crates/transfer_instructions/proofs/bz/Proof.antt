@@ -27,16 +27,16 @@ same-length-2 c = search needs
 
 returns-2 : tie.Need-returns-2
 unfolding execute executeOperation meaning microSteps microStep monitorSteps monitorStep
-returns-2 c =
-    let b4 = c .before .before .before .before in (
+returns-2 c = (
+  let b4 = c .before .before .before .before in
       rw (
         ← (b4 .before .before .before .is-absent .ensures),
         b4 .before .before .if1 .left,
         ← (b4 .byte-at .ensures .0),
         ← (c .before .before .put-word .ensures),
       ),
-      search needs,
-    )
+  search needs,
+)
 
 pub bz-spec : {M : Type 1} → statement M
 bz-spec =

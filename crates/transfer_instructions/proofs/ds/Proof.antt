@@ -24,9 +24,11 @@ same-length-2 c = search needs
 
 returns-2 : tie.Need-returns-2
 unfolding execute executeOperation meaning microSteps microStep monitorSteps monitorStep
-returns-2 c =
-    let b4 = c .before .before .before .before in
-    (rw (← (b4 .before .is-absent .ensures), b4 .if1 .left, ← (c .before .is-violation .ensures), c .if2 .taken), search needs)
+returns-2 c = (
+  let b4 = c .before .before .before .before in
+      rw (← (b4 .before .is-absent .ensures), b4 .if1 .left, ← (c .before .is-violation .ensures), c .if2 .taken),
+  search needs,
+)
 
 word-at-requires : tie.Need-word-at-requires
 word-at-requires c κs = search needs
@@ -45,11 +47,11 @@ same-length-3 c = search needs
 
 returns-3 : tie.Need-returns-3
 unfolding execute executeOperation meaning microSteps microStep monitorSteps monitorStep
-returns-3 c =
-    let b4 = c .before .before .before .before in
-    let b8 = b4 .before .before .before .before in
-    let b12 = b8 .before .before .before .before in
-    let b16 = b12 .before .before .before .before in (
+returns-3 c = (
+  let b4 = c .before .before .before .before in
+      let b8 = b4 .before .before .before .before in
+      let b12 = b8 .before .before .before .before in
+      let b16 = b12 .before .before .before .before in
       rw (
         ← (b16 .is-absent .ensures),
         b12 .before .before .before .if1 .left,
@@ -61,8 +63,8 @@ returns-3 c =
         ← (c .before .is-violation2 .ensures),
         c .if3 .taken,
       ),
-      search needs,
-    )
+  search needs,
+)
 
 previous-register-requires : tie.Need-previous-register-requires
 previous-register-requires c κs = search needs
@@ -78,12 +80,12 @@ same-length-4 c = search needs
 
 returns-4 : tie.Need-returns-4
 unfolding execute executeOperation meaning microSteps microStep monitorSteps monitorStep
-returns-4 c =
-    let b4 = c .before .before .before .before in
-    let b8 = b4 .before .before .before .before in
-    let b12 = b8 .before .before .before .before in
-    let b16 = b12 .before .before .before .before in
-    let b20 = b16 .before .before .before .before in (
+returns-4 c = (
+  let b4 = c .before .before .before .before in
+      let b8 = b4 .before .before .before .before in
+      let b12 = b8 .before .before .before .before in
+      let b16 = b12 .before .before .before .before in
+      let b20 = b16 .before .before .before .before in
       rw (
         ← (b20 .before .before .before .is-absent .ensures),
         b20 .before .before .if1 .left,
@@ -98,8 +100,8 @@ returns-4 c =
         ← (b4 .word-at2 .ensures .0),
         ← (c .before .before .put-word2 .ensures),
       ),
-      search needs,
-    )
+  search needs,
+)
 
 pub ds-spec : {M : Type 1} → statement M
 ds-spec =

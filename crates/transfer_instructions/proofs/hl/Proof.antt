@@ -36,9 +36,9 @@ same-length-2 c = search needs
 
 returns-2 : tie.Need-returns-2
 unfolding execute executeOperation meaning microSteps microStep monitorSteps monitorStep
-returns-2 c =
-    let b4 = c .before .before .before .before in
-    let b8 = b4 .before .before .before .before in (
+returns-2 c = (
+  let b4 = c .before .before .before .before in
+      let b8 = b4 .before .before .before .before in
       rw (
         ← (b8 .before .is-absent .ensures),
         b8 .if1 .left,
@@ -46,8 +46,8 @@ returns-2 c =
         ← (b4 .byte-at .ensures .0),
         ← (c .before .before .put-word .ensures),
       ),
-      search needs,
-    )
+  search needs,
+)
 
 pub hl-spec : {M : Type 1} → statement M
 hl-spec =

@@ -33,10 +33,10 @@ same-length-2 c = search needs
 
 returns-2 : tie.Need-returns-2
 unfolding execute executeOperation meaning microSteps microStep monitorSteps monitorStep
-returns-2 c =
-    let b4 = c .before .before .before .before in
-    let b8 = b4 .before .before .before .before in
-    let b12 = b8 .before .before .before .before in (
+returns-2 c = (
+  let b4 = c .before .before .before .before in
+      let b8 = b4 .before .before .before .before in
+      let b12 = b8 .before .before .before .before in
       rw (
         ← (b12 .before .is-absent .ensures),
         b12 .if1 .left,
@@ -46,8 +46,8 @@ returns-2 c =
         ← (c .before .is-violation .ensures),
         c .if2 .taken,
       ),
-      search needs,
-    )
+  search needs,
+)
 
 put-word-requires-2 : tie.Need-put-word-requires-2
 put-word-requires-2 c κs = search needs
@@ -57,11 +57,11 @@ same-length-3 c = search needs
 
 returns-3 : tie.Need-returns-3
 unfolding execute executeOperation meaning microSteps microStep monitorSteps monitorStep
-returns-3 c =
-    let b4 = c .before .before .before .before in
-    let b8 = b4 .before .before .before .before in
-    let b12 = b8 .before .before .before .before in
-    let b16 = b12 .before .before .before .before in (
+returns-3 c = (
+  let b4 = c .before .before .before .before in
+      let b8 = b4 .before .before .before .before in
+      let b12 = b8 .before .before .before .before in
+      let b16 = b12 .before .before .before .before in
       rw (
         ← (b16 .before .is-absent .ensures),
         b16 .if1 .left,
@@ -72,8 +72,8 @@ returns-3 c =
         b4 .if2 .left,
         ← (c .before .before .put-word2 .ensures),
       ),
-      search needs,
-    )
+  search needs,
+)
 
 pub rx-spec : {M : Type 1} → statement M
 rx-spec =
