@@ -32,10 +32,10 @@ same-length c = search needs
 
 returns : tie.Need-returns
 unfolding execute executeOperation meaning microSteps microStep monitorSteps monitorStep
-returns c =
-    let b4 = c .before .before .before .before in
-    let b8 = b4 .before .before .before .before in
-    let b12 = b8 .before .before .before .before in (
+returns c = (
+  let b4 = c .before .before .before .before in
+      let b8 = b4 .before .before .before .before in
+      let b12 = b8 .before .before .before .before in
       rw (
         ← (b12 .clear-flags .ensures .0),
         ← (b8 .before .before .before .previous-register .ensures),
@@ -45,8 +45,8 @@ returns c =
         ← (b4 .note-overflow .ensures .0),
         ← (c .before .before .put-long .ensures),
       ),
-      search needs,
-    )
+  search needs,
+)
 
 pub cf-spec : {M : Type 1} → statement M
 cf-spec =

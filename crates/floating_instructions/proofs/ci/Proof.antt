@@ -32,10 +32,10 @@ same-length c = search needs
 
 returns : tie.Need-returns
 unfolding execute executeOperation meaning microSteps microStep monitorSteps monitorStep
-returns c =
-    let b4 = c .before .before .before .before in
-    let b8 = b4 .before .before .before .before in
-    let b12 = b8 .before .before .before .before in (
+returns c = (
+  let b4 = c .before .before .before .before in
+      let b8 = b4 .before .before .before .before in
+      let b12 = b8 .before .before .before .before in
       rw (
         ← (b12 .before .before .clear-flags .ensures .0),
         ← (b12 .word-at .ensures .0),
@@ -45,8 +45,8 @@ returns c =
         ← (b4 .before .before .put-long .ensures),
         ← (c .before .before .put-long2 .ensures),
       ),
-      search needs,
-    )
+  search needs,
+)
 
 pub ci-spec : {M : Type 1} → statement M
 ci-spec =

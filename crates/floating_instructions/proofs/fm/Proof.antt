@@ -57,13 +57,13 @@ same-length-2 c = search needs
 
 returns-2 : tie.Need-returns-2
 unfolding execute executeOperation meaning microSteps microStep monitorSteps monitorStep
-returns-2 c =
-    let b4 = c .before .before .before .before in
-    let b8 = b4 .before .before .before .before in
-    let b12 = b8 .before .before .before .before in
-    let b16 = b12 .before .before .before .before in
-    let b20 = b16 .before .before .before .before in
-    let b24 = b20 .before .before .before .before in (
+returns-2 c = (
+  let b4 = c .before .before .before .before in
+      let b8 = b4 .before .before .before .before in
+      let b12 = b8 .before .before .before .before in
+      let b16 = b12 .before .before .before .before in
+      let b20 = b16 .before .before .before .before in
+      let b24 = b20 .before .before .before .before in
       rw (
         ← (b24 .clear-flags .ensures .0),
         ← (b20 .before .before .is-absent .ensures),
@@ -79,8 +79,8 @@ returns-2 c =
         ← (b4 .before .before .put-long .ensures),
         ← (c .before .before .put-long2 .ensures),
       ),
-      search needs,
-    )
+  search needs,
+)
 
 pub fm-spec : {M : Type 1} → statement M
 fm-spec =
