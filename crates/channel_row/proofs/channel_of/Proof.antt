@@ -1,3 +1,4 @@
+-- Made by tools/prove.py; not to be edited.
 use Rattle.channel_row.specs.Row.{channelAt}
 use borrow.Author.Needs.{needs}
 use Rattle.channel_row.proofs.channel_of.Statement.{statement}

@@ -1,3 +1,4 @@
+-- Made by tools/prove.py; not to be edited.
 use Rattle.channel_row.specs.Row.{channelAt}
 use Rattle.definition_instructions.specs.Channel.{registersOf}
 use borrow.Author.Needs.{needs}

@@ -1,3 +1,4 @@
+-- Made by tools/prove.py; not to be edited.
 use Rattle.definition_instructions.specs.Channel.{disconnected}
 use borrow.Author.Tests.{eq-eqb, ne-eqb}
 use borrow.Author.Needs.{needs}
@@ -20,7 +21,13 @@ is-typing-full-requires c κs = search needs
 
 returns-3 : tie.Need-returns-3
 unfolding disconnected
-returns-3 c = rw (ne-eqb _ _ (c .before .before .before .if1 .left), eq-eqb _ _ (c .before .before .if3 .taken), eq-eqb _ _ (c .before .if4 .taken), ← (c .is-typing-full .ensures))
+returns-3 c =
+    rw (
+      ne-eqb _ _ (c .before .before .before .if1 .left),
+      eq-eqb _ _ (c .before .before .if3 .taken),
+      eq-eqb _ _ (c .before .if4 .taken),
+      ← (c .is-typing-full .ensures),
+    )
 
 returns-4 : tie.Need-returns-4
 unfolding disconnected

@@ -1,4 +1,4 @@
-use mathlib.Core.Path.{refl}
+-- Made by tools/prove.py; not to be edited.
 use Rattle.machine.specs.Fields.{flagsCleared}
 use borrow.Author.Needs.{needs}
 use Rattle.control_row.proofs.clear_flags.Statement.{statement}
@@ -15,7 +15,7 @@ set-ex-requires c κs = search needs
 
 returns : tie.Need-returns
 unfolding flagsCleared
-returns c = (rw (c .set-ex .ensures .0, c .before .before .ex .ensures) refl, search needs)
+returns c = (rw (← (rw (c .before .before .ex .ensures) at (c .set-ex .ensures .0))), search needs)
 
 pub clear-flags-spec : {M : Type 1} → statement M
 clear-flags-spec = tie.close (tie.spec ex-requires mul-set-ex set-ex-requires returns)

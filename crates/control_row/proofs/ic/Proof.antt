@@ -1,3 +1,4 @@
+-- Made by tools/prove.py; not to be edited.
 use Rattle.control_row.specs.Row.{controlAt}
 use borrow.Author.Needs.{needs}
 use Rattle.control_row.proofs.ic.Statement.{statement}

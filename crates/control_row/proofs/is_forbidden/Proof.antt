@@ -1,3 +1,4 @@
+-- Made by tools/prove.py; not to be edited.
 use Rattle.machine.specs.Store.{forbidden}
 use borrow.Author.Needs.{needs}
 use Rattle.control_row.proofs.is_forbidden.Statement.{statement}
@@ -14,7 +15,7 @@ is-key-forbidden-requires c κs = search needs
 
 returns : tie.Need-returns
 unfolding forbidden
-returns c = rw (← (c .before .before .key-at .ensures), ← (c .before .pr .ensures), ← (c .is-key-forbidden .ensures))
+returns c = rw (← (c .before .before .key-at .ensures), ← (rw (c .before .pr .ensures) at (c .is-key-forbidden .ensures)))
 
 pub is-forbidden-spec : {M : Type 1} → statement M
 is-forbidden-spec =

@@ -1,5 +1,6 @@
-use Rattle.machine.specs.Fields.{inTask}
+-- Made by tools/prove.py; not to be edited.
 use Rattle.control_row.specs.Row.{controlAt}
+use Rattle.machine.specs.Fields.{inTask}
 use borrow.Author.Needs.{needs}
 use Rattle.control_row.proofs.is_task.Statement.{statement}
 use Rattle.control_row.proofs.is_task.Tie as tie

@@ -1,3 +1,4 @@
+-- Made by tools/prove.py; not to be edited.
 use Rattle.machine.specs.Fields.{carrySet}
 use borrow.Author.Needs.{needs}
 use Rattle.control_row.proofs.note_carry.Statement.{statement}
@@ -17,7 +18,7 @@ set-ex-requires c κs = search needs
 
 returns : tie.Need-returns
 unfolding carrySet
-returns c = (rw (c .set-ex .ensures .0, c .before .before .ex .ensures), search needs)
+returns c = (rw (← (rw (c .before .before .ex .ensures) at (c .set-ex .ensures .0))), search needs)
 
 pub note-carry-spec : {M : Type 1} → statement M
 note-carry-spec = tie.close (tie.spec ex-requires mul-set-ex add-set-ex set-ex-requires returns)

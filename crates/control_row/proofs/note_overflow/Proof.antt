@@ -1,3 +1,4 @@
+-- Made by tools/prove.py; not to be edited.
 use Rattle.machine.specs.Fields.{overflowed}
 use borrow.Author.Tests.{eq-eqb, ne-eqb}
 use borrow.Author.Needs.{needs}
@@ -28,7 +29,15 @@ raise-requires c κs = search needs
 
 returns-2 : tie.Need-returns-2
 unfolding overflowed
-returns-2 c = (rw (ne-eqb _ _ (c .before .before .before .before .before .before .if1 .left), ← (rw (c .before .before .before .before .ex .ensures) at (c .before .before .set-ex .ensures .0)), ← (c .raise .ensures .0)), search needs)
+returns-2 c = (
+  let b4 = c .before .before .before .before in
+      rw (
+        ne-eqb _ _ (b4 .before .before .if1 .left),
+        ← (rw (b4 .ex .ensures) at (c .before .before .set-ex .ensures .0)),
+        ← (c .raise .ensures .0),
+      ),
+  search needs,
+)
 
 pub note-overflow-spec : {M : Type 1} → statement M
 note-overflow-spec =

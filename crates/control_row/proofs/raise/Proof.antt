@@ -1,3 +1,4 @@
+-- Made by tools/prove.py; not to be edited.
 use Rattle.machine.specs.Fields.{raised}
 use borrow.Author.Needs.{needs}
 use Rattle.control_row.proofs.raise.Statement.{statement}
@@ -11,7 +12,7 @@ set-ir-requires c κs = search needs
 
 returns : tie.Need-returns
 unfolding raised
-returns c = (rw (c .set-ir .ensures .0, c .before .before .ir .ensures), search needs)
+returns c = (rw (← (rw (c .before .before .ir .ensures) at (c .set-ir .ensures .0))), search needs)
 
 pub raise-spec : {M : Type 1} → statement M
 raise-spec = tie.close (tie.spec ir-requires set-ir-requires returns)

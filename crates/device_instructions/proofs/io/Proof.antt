@@ -1,7 +1,8 @@
+-- Made by tools/prove.py; not to be edited.
 use borrow.Author.Tests.{eq-eqb, ne-eqb}
 use Rattle.definition_instructions.specs.Codes.{executeDevice}
 use Rattle.definition_instructions.specs.Meaning.{commanded, deviceMeaning}
-use Rattle.definition_instructions.specs.MicroOps.{deviceStep, deviceSteps, microStep, monitorStep, executeDeviceOperation}
+use Rattle.definition_instructions.specs.MicroOps.{deviceStep, deviceSteps, executeDeviceOperation, microStep, monitorStep}
 use borrow.Author.Needs.{needs}
 use Rattle.device_instructions.proofs.io.Statement.{statement}
 use Rattle.device_instructions.proofs.io.Tie as tie
@@ -36,7 +37,19 @@ same-length c = search needs
 
 returns-2 : tie.Need-returns-2
 unfolding executeDevice executeDeviceOperation deviceMeaning deviceSteps deviceStep monitorStep microStep commanded
-returns-2 c = (rw (← (c .before .before .before .before .before .before .before .before .before .before .is-task .ensures), c .before .before .before .before .before .before .before .before .before .if1 .left, ← (c .before .before .before .before .before .before .is-disconnected .ensures), ← (c .before .before .before .before .before .rejection .ensures .0), ← (rw (c .before .before .before .ex .ensures) at (c .before .set-ex .ensures .0)), c .if2 .taken), (search needs, search needs))
+returns-2 c = (
+  let b4 = c .before .before .before .before in
+      let b8 = b4 .before .before .before .before in
+      rw (
+        ← (b8 .before .before .is-task .ensures),
+        b8 .before .if1 .left,
+        ← (b4 .before .before .is-disconnected .ensures),
+        ← (b4 .before .rejection .ensures .0),
+        ← (rw (c .before .before .before .ex .ensures) at (c .before .set-ex .ensures .0)),
+        c .if2 .taken,
+      ),
+  (search needs, search needs),
+)
 
 buffer-at-requires : tie.Need-buffer-at-requires
 buffer-at-requires c κs = search needs
@@ -52,14 +65,46 @@ same-length-3 c = search needs
 
 returns-3 : tie.Need-returns-3
 unfolding executeDevice executeDeviceOperation deviceMeaning deviceSteps deviceStep monitorStep microStep commanded
-returns-3 c = (rw (← (c .before .before .before .before .before .before .before .before .before .before .before .before .before .before .before .before .before .before .is-task .ensures), c .before .before .before .before .before .before .before .before .before .before .before .before .before .before .before .before .before .if1 .left, ← (c .before .before .before .before .before .before .before .before .before .before .before .before .before .before .is-disconnected .ensures), ← (c .before .before .before .before .before .before .before .before .before .before .before .before .before .rejection .ensures .0), ← (rw (c .before .before .before .before .before .before .before .before .before .before .before .ex .ensures) at (c .before .before .before .before .before .before .before .before .before .set-ex .ensures .0)), c .before .before .before .before .before .before .before .before .if2 .left, eq-eqb _ _ (c .before .before .before .before .before .before .before .if3 .taken), ← (c .before .before .before .before .buffer-at .ensures .0), ← (c .before .before .put-word .ensures)), (search needs, search needs))
+returns-3 c = (
+  let b4 = c .before .before .before .before in
+      let b8 = b4 .before .before .before .before in
+      let b12 = b8 .before .before .before .before in
+      let b16 = b12 .before .before .before .before in
+      rw (
+        ← (b16 .before .before .is-task .ensures),
+        b16 .before .if1 .left,
+        ← (b12 .before .before .is-disconnected .ensures),
+        ← (b12 .before .rejection .ensures .0),
+        ← (rw (b8 .before .before .before .ex .ensures) at (b8 .before .set-ex .ensures .0)),
+        b8 .if2 .left,
+        eq-eqb _ _ (b4 .before .before .before .if3 .taken),
+        ← (b4 .buffer-at .ensures .0),
+        ← (c .before .before .put-word .ensures),
+      ),
+  (search needs, search needs),
+)
 
 same-length-4 : tie.Need-same-length-4
 same-length-4 c = search needs
 
 returns-4 : tie.Need-returns-4
 unfolding executeDevice executeDeviceOperation deviceMeaning deviceSteps deviceStep monitorStep microStep commanded
-returns-4 c = (rw (← (c .before .before .before .before .before .before .before .before .before .before .before .before .is-task .ensures), c .before .before .before .before .before .before .before .before .before .before .before .if1 .left, ← (c .before .before .before .before .before .before .before .before .is-disconnected .ensures), ← (c .before .before .before .before .before .before .before .rejection .ensures .0), ← (rw (c .before .before .before .before .before .ex .ensures) at (c .before .before .before .set-ex .ensures .0)), c .before .before .if2 .left, ne-eqb _ _ (c .before .if3 .left), eq-eqb _ _ (c .if4 .taken)), (search needs, search needs))
+returns-4 c = (
+  let b4 = c .before .before .before .before in
+      let b8 = b4 .before .before .before .before in
+      let b12 = b8 .before .before .before .before in
+      rw (
+        ← (b12 .is-task .ensures),
+        b8 .before .before .before .if1 .left,
+        ← (b8 .is-disconnected .ensures),
+        ← (b4 .before .before .before .rejection .ensures .0),
+        ← (rw (b4 .before .ex .ensures) at (c .before .before .before .set-ex .ensures .0)),
+        c .before .before .if2 .left,
+        ne-eqb _ _ (c .before .if3 .left),
+        eq-eqb _ _ (c .if4 .taken),
+      ),
+  (search needs, search needs),
+)
 
 read-requires : tie.Need-read-requires
 read-requires c κs = search needs
@@ -69,7 +114,25 @@ same-length-5 c = search needs
 
 returns-5 : tie.Need-returns-5
 unfolding executeDevice executeDeviceOperation deviceMeaning deviceSteps deviceStep monitorStep microStep commanded
-returns-5 c = (rw (← (c .before .before .before .before .before .before .before .before .before .before .before .before .before .before .before .before .is-task .ensures), c .before .before .before .before .before .before .before .before .before .before .before .before .before .before .before .if1 .left, ← (c .before .before .before .before .before .before .before .before .before .before .before .before .is-disconnected .ensures), ← (c .before .before .before .before .before .before .before .before .before .before .before .rejection .ensures .0), ← (rw (c .before .before .before .before .before .before .before .before .before .ex .ensures) at (c .before .before .before .before .before .before .before .set-ex .ensures .0)), c .before .before .before .before .before .before .if2 .left, ne-eqb _ _ (c .before .before .before .before .before .if3 .left), ne-eqb _ _ (c .before .before .before .before .if4 .left), eq-eqb _ _ (c .before .before .before .if5 .taken), ← (c .read .ensures .0)), (search needs, search needs))
+returns-5 c = (
+  let b4 = c .before .before .before .before in
+      let b8 = b4 .before .before .before .before in
+      let b12 = b8 .before .before .before .before in
+      let b16 = b12 .before .before .before .before in
+      rw (
+        ← (b16 .is-task .ensures),
+        b12 .before .before .before .if1 .left,
+        ← (b12 .is-disconnected .ensures),
+        ← (b8 .before .before .before .rejection .ensures .0),
+        ← (rw (b8 .before .ex .ensures) at (b4 .before .before .before .set-ex .ensures .0)),
+        b4 .before .before .if2 .left,
+        ne-eqb _ _ (b4 .before .if3 .left),
+        ne-eqb _ _ (b4 .if4 .left),
+        eq-eqb _ _ (c .before .before .before .if5 .taken),
+        ← (c .read .ensures .0),
+      ),
+  (search needs, search needs),
+)
 
 word-at-requires : tie.Need-word-at-requires
 word-at-requires c κs = search needs
@@ -85,7 +148,27 @@ same-length-7 c = search needs
 
 returns-6 : tie.Need-returns-6
 unfolding executeDevice executeDeviceOperation deviceMeaning deviceSteps deviceStep monitorStep microStep commanded
-returns-6 c = (rw (← (c .before .before .before .before .before .before .before .before .before .before .before .before .before .before .before .before .before .before .before .before .is-task .ensures), c .before .before .before .before .before .before .before .before .before .before .before .before .before .before .before .before .before .before .before .if1 .left, ← (c .before .before .before .before .before .before .before .before .before .before .before .before .before .before .before .before .is-disconnected .ensures), ← (c .before .before .before .before .before .before .before .before .before .before .before .before .before .before .before .rejection .ensures .0), ← (rw (c .before .before .before .before .before .before .before .before .before .before .before .before .before .ex .ensures) at (c .before .before .before .before .before .before .before .before .before .before .before .set-ex .ensures .0)), c .before .before .before .before .before .before .before .before .before .before .if2 .left, ne-eqb _ _ (c .before .before .before .before .before .before .before .before .before .if3 .left), ne-eqb _ _ (c .before .before .before .before .before .before .before .before .if4 .left), ne-eqb _ _ (c .before .before .before .before .before .before .before .if5 .left), ← (c .before .before .before .before .before .word-at .ensures .0), ← (c .before .before .write .ensures .0)), (search needs, search needs))
+returns-6 c = (
+  let b4 = c .before .before .before .before in
+      let b8 = b4 .before .before .before .before in
+      let b12 = b8 .before .before .before .before in
+      let b16 = b12 .before .before .before .before in
+      let b20 = b16 .before .before .before .before in
+      rw (
+        ← (b20 .is-task .ensures),
+        b16 .before .before .before .if1 .left,
+        ← (b16 .is-disconnected .ensures),
+        ← (b12 .before .before .before .rejection .ensures .0),
+        ← (rw (b12 .before .ex .ensures) at (b8 .before .before .before .set-ex .ensures .0)),
+        b8 .before .before .if2 .left,
+        ne-eqb _ _ (b8 .before .if3 .left),
+        ne-eqb _ _ (b8 .if4 .left),
+        ne-eqb _ _ (b4 .before .before .before .if5 .left),
+        ← (b4 .before .word-at .ensures .0),
+        ← (c .before .before .write .ensures .0),
+      ),
+  (search needs, search needs),
+)
 
 pub io-spec : {M : Type 1} → statement M
 io-spec =

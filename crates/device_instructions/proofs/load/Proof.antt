@@ -1,3 +1,5 @@
+-- Made by tools/prove.py; not to be edited.
+use Rattle.machine.specs.Store.{putKey}
 use borrow.Author.Needs.{needs}
 use Rattle.device_instructions.proofs.load.Statement.{statement}
 use Rattle.device_instructions.proofs.load.Tie as tie
@@ -12,8 +14,8 @@ same-length : tie.Need-same-length
 same-length c = search needs
 
 returns : tie.Need-returns
-returns c =
-    rw (← (c .before .before .before .before .before .before .put-word .ensures), ← (c .before .before .put-key .ensures))
+unfolding putKey
+returns c = rw (← (c .before .before .before .before .before .before .put-word .ensures), ← (c .before .before .put-key .ensures))
 
 pub load-spec : {M : Type 1} → statement M
 load-spec = tie.close (tie.spec put-word-requires put-key-requires same-length returns)

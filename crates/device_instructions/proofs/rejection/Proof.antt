@@ -1,3 +1,4 @@
+-- Made by tools/prove.py; not to be edited.
 use borrow.Author.Needs.{needs}
 use Rattle.definition_instructions.specs.Meaning.{rejection}
 use Rattle.device_instructions.proofs.rejection.Statement.{statement}

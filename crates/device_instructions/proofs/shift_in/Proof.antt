@@ -1,3 +1,4 @@
+-- Made by tools/prove.py; not to be edited.
 use Rattle.definition_instructions.specs.Channel.{shiftedIn}
 use borrow.Author.Needs.{needs}
 use Rattle.device_instructions.proofs.shift_in.Statement.{statement}

@@ -1,6 +1,7 @@
+-- Made by tools/prove.py; not to be edited.
 use Rattle.definition_instructions.specs.Codes.{execute}
 use Rattle.definition_instructions.specs.Meaning.{meaning}
-use Rattle.definition_instructions.specs.MicroOps.{microStep, microSteps, monitorStep, monitorSteps, executeOperation}
+use Rattle.definition_instructions.specs.MicroOps.{executeOperation, microStep, microSteps, monitorStep, monitorSteps}
 use borrow.Author.Needs.{needs}
 use Rattle.floating_instructions.proofs.ci.Statement.{statement}
 use Rattle.floating_instructions.proofs.ci.Tie as tie
@@ -31,7 +32,21 @@ same-length c = search needs
 
 returns : tie.Need-returns
 unfolding execute executeOperation meaning microSteps microStep monitorSteps monitorStep
-returns c = (rw (← (c .before .before .before .before .before .before .before .before .before .before .before .before .before .before .clear-flags .ensures .0), ← (c .before .before .before .before .before .before .before .before .before .before .before .before .word-at .ensures .0), ← (c .before .before .before .before .before .before .before .before .before .before .before .convert-integer .ensures), ← (c .before .before .before .before .before .before .before .before .before .note-overflow .ensures .0), ← (c .before .before .before .before .before .before .before .before .previous-register .ensures), ← (c .before .before .before .before .before .before .put-long .ensures), ← (c .before .before .put-long2 .ensures)), search needs)
+returns c = (
+  let b4 = c .before .before .before .before in
+      let b8 = b4 .before .before .before .before in
+      let b12 = b8 .before .before .before .before in
+      rw (
+        ← (b12 .before .before .clear-flags .ensures .0),
+        ← (b12 .word-at .ensures .0),
+        ← (b8 .before .before .before .convert-integer .ensures),
+        ← (b8 .before .note-overflow .ensures .0),
+        ← (b8 .previous-register .ensures),
+        ← (b4 .before .before .put-long .ensures),
+        ← (c .before .before .put-long2 .ensures),
+      ),
+  search needs,
+)
 
 pub ci-spec : {M : Type 1} → statement M
 ci-spec =

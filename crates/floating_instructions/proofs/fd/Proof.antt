@@ -1,6 +1,7 @@
+-- Made by tools/prove.py; not to be edited.
 use Rattle.definition_instructions.specs.Codes.{execute}
 use Rattle.definition_instructions.specs.Meaning.{meaning}
-use Rattle.definition_instructions.specs.MicroOps.{microStep, microSteps, monitorStep, monitorSteps, executeOperation}
+use Rattle.definition_instructions.specs.MicroOps.{executeOperation, microStep, microSteps, monitorStep, monitorSteps}
 use borrow.Author.Needs.{needs}
 use Rattle.floating_instructions.proofs.fd.Statement.{statement}
 use Rattle.floating_instructions.proofs.fd.Tie as tie
@@ -56,7 +57,30 @@ same-length-2 c = search needs
 
 returns-2 : tie.Need-returns-2
 unfolding execute executeOperation meaning microSteps microStep monitorSteps monitorStep
-returns-2 c = (rw (← (c .before .before .before .before .before .before .before .before .before .before .before .before .before .before .before .before .before .before .before .before .before .before .before .before .clear-flags .ensures .0), ← (c .before .before .before .before .before .before .before .before .before .before .before .before .before .before .before .before .before .before .before .before .before .before .is-absent .ensures), c .before .before .before .before .before .before .before .before .before .before .before .before .before .before .before .before .before .before .before .before .before .if1 .left, ← (c .before .before .before .before .before .before .before .before .before .before .before .before .before .before .before .before .before .before .before .before .previous-register .ensures), ← (c .before .before .before .before .before .before .before .before .before .before .before .before .before .before .before .before .before .before .word-at .ensures .0), ← (c .before .before .before .before .before .before .before .before .before .before .before .before .before .before .before .before .word-at2 .ensures .0), ← (c .before .before .before .before .before .before .before .before .before .before .before .before .before .before .before .first-word .ensures), ← (c .before .before .before .before .before .before .before .before .before .before .before .before .before .word-at3 .ensures .0), ← (c .before .before .before .before .before .before .before .before .before .before .before .word-at4 .ensures .0), ← (rw (c .before .before .before .before .before .before .before .before .before .before .before .before .before .before .before .before .before .before .before .before .before .before .before .before .before .before .ex .ensures) at (c .before .before .before .before .before .before .before .before .before .before .divide .ensures)), ← (c .before .before .before .before .before .before .before .before .note-overflow .ensures .0), ← (c .before .before .before .before .before .before .put-long .ensures), ← (c .before .before .put-long2 .ensures)), search needs)
+returns-2 c = (
+  let b4 = c .before .before .before .before in
+      let b8 = b4 .before .before .before .before in
+      let b12 = b8 .before .before .before .before in
+      let b16 = b12 .before .before .before .before in
+      let b20 = b16 .before .before .before .before in
+      let b24 = b20 .before .before .before .before in
+      rw (
+        ← (b24 .clear-flags .ensures .0),
+        ← (b20 .before .before .is-absent .ensures),
+        b20 .before .if1 .left,
+        ← (b20 .previous-register .ensures),
+        ← (b16 .before .before .word-at .ensures .0),
+        ← (b16 .word-at2 .ensures .0),
+        ← (b12 .before .before .before .first-word .ensures),
+        ← (b12 .before .word-at3 .ensures .0),
+        ← (b8 .before .before .before .word-at4 .ensures .0),
+        ← (rw (b24 .before .before .ex .ensures) at (b8 .before .before .divide .ensures)),
+        ← (b8 .note-overflow .ensures .0),
+        ← (b4 .before .before .put-long .ensures),
+        ← (c .before .before .put-long2 .ensures),
+      ),
+  search needs,
+)
 
 pub fd-spec : {M : Type 1} → statement M
 fd-spec =

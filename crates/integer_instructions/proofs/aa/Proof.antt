@@ -1,6 +1,7 @@
+-- Made by tools/prove.py; not to be edited.
 use Rattle.definition_instructions.specs.Codes.{execute}
 use Rattle.definition_instructions.specs.Meaning.{meaning}
-use Rattle.definition_instructions.specs.MicroOps.{microStep, microSteps, monitorStep, monitorSteps, executeOperation}
+use Rattle.definition_instructions.specs.MicroOps.{executeOperation, microStep, microSteps, monitorStep, monitorSteps}
 use borrow.Author.Needs.{needs}
 use Rattle.integer_instructions.proofs.aa.Statement.{statement}
 use Rattle.integer_instructions.proofs.aa.Tie as tie
@@ -49,14 +50,45 @@ put-word-requires-2 : tie.Need-put-word-requires-2
 put-word-requires-2 c κs = search needs
 
 test-integer-requires : tie.Need-test-integer-requires
-test-integer-requires c κs = c .before .before .before .before .before .before .before .before .before .before .before .before .before .before .before .before .before .before .before .before .before .before .before .before .clear-flags .ensures .1
+test-integer-requires c κs =
+    let b4 = c .before .before .before .before in
+    let b8 = b4 .before .before .before .before in
+    let b12 = b8 .before .before .before .before in
+    let b16 = b12 .before .before .before .before in
+    let b20 = b16 .before .before .before .before in
+    let b24 = b20 .before .before .before .before in
+    let kept = b24 .clear-flags .ensures .1 in search needs
 
 same-length-2 : tie.Need-same-length-2
 same-length-2 c = search needs
 
 returns-2 : tie.Need-returns-2
 unfolding execute executeOperation meaning microSteps microStep monitorSteps monitorStep
-returns-2 c = (rw (← (c .before .before .before .before .before .before .before .before .before .before .before .before .before .before .before .before .before .before .before .before .before .before .before .before .before .clear-flags .ensures .0), ← (c .before .before .before .before .before .before .before .before .before .before .before .before .before .before .before .before .before .before .before .before .before .before .before .is-absent .ensures), c .before .before .before .before .before .before .before .before .before .before .before .before .before .before .before .before .before .before .before .before .before .before .if1 .left, ← (c .before .before .before .before .before .before .before .before .before .before .before .before .before .before .before .before .before .before .before .before .word-at .ensures .0), ← (c .before .before .before .before .before .before .before .before .before .before .before .before .before .before .before .before .before .before .word-at2 .ensures .0), ← (c .before .before .before .before .before .before .before .before .before .before .before .before .before .before .before .before .before .add .ensures .0), ← (c .before .before .before .before .before .before .before .before .before .before .before .before .before .before .before .put-word .ensures), ← (c .before .before .before .before .before .before .before .before .before .before .before .before .previous-register .ensures), ← (c .before .before .before .before .before .before .before .before .before .before .word-at3 .ensures .0), ← (c .before .before .before .before .before .before .before .before .before .first-word .ensures), ← (c .before .before .before .before .before .before .before .word-at4 .ensures .0), ← (c .before .before .before .before .before .before .add-with-carry .ensures .0), ← (c .before .before .before .before .put-word2 .ensures), ← (c .test-integer .ensures .0)), search needs)
+returns-2 c = (
+  let b4 = c .before .before .before .before in
+      let b8 = b4 .before .before .before .before in
+      let b12 = b8 .before .before .before .before in
+      let b16 = b12 .before .before .before .before in
+      let b20 = b16 .before .before .before .before in
+      let b24 = b20 .before .before .before .before in
+      rw (
+        ← (b24 .before .clear-flags .ensures .0),
+        ← (b20 .before .before .before .is-absent .ensures),
+        b20 .before .before .if1 .left,
+        ← (b20 .word-at .ensures .0),
+        ← (b16 .before .before .word-at2 .ensures .0),
+        ← (b16 .before .add .ensures .0),
+        ← (b12 .before .before .before .put-word .ensures),
+        ← (b12 .previous-register .ensures),
+        ← (b8 .before .before .word-at3 .ensures .0),
+        ← (b8 .before .first-word .ensures),
+        ← (b4 .before .before .before .word-at4 .ensures .0),
+        ← (b4 .before .before .add-with-carry .ensures .0),
+        ← (b4 .put-word2 .ensures),
+        ← (c .test-integer .ensures .0),
+      ),
+  search needs,
+)
 
 pub aa-spec : {M : Type 1} → statement M
 aa-spec =

@@ -1,6 +1,7 @@
+-- Made by tools/prove.py; not to be edited.
 use Rattle.definition_instructions.specs.Codes.{execute}
 use Rattle.definition_instructions.specs.Meaning.{meaning}
-use Rattle.definition_instructions.specs.MicroOps.{microStep, microSteps, monitorStep, monitorSteps, executeOperation}
+use Rattle.definition_instructions.specs.MicroOps.{executeOperation, microStep, microSteps, monitorStep, monitorSteps}
 use borrow.Author.Needs.{needs}
 use Rattle.integer_instructions.proofs.ac.Statement.{statement}
 use Rattle.integer_instructions.proofs.ac.Tie as tie
@@ -22,7 +23,16 @@ same-length c = search needs
 
 returns : tie.Need-returns
 unfolding execute executeOperation meaning microSteps microStep monitorSteps monitorStep
-returns c = (rw (← (c .before .before .before .before .before .before .before .clear-flags .ensures .0), ← (c .before .before .before .before .before .before .subtract .ensures .0), ← (c .before .before .before .before .put-word .ensures), ← (c .test-integer .ensures .0)), search needs)
+returns c = (
+  let b4 = c .before .before .before .before in
+      rw (
+        ← (b4 .before .before .before .clear-flags .ensures .0),
+        ← (b4 .before .before .subtract .ensures .0),
+        ← (b4 .put-word .ensures),
+        ← (c .test-integer .ensures .0),
+      ),
+  search needs,
+)
 
 pub ac-spec : {M : Type 1} → statement M
 ac-spec =

@@ -1,6 +1,7 @@
+-- Made by tools/prove.py; not to be edited.
 use Rattle.definition_instructions.specs.Codes.{execute}
 use Rattle.definition_instructions.specs.Meaning.{meaning}
-use Rattle.definition_instructions.specs.MicroOps.{microStep, microSteps, monitorStep, monitorSteps, executeOperation}
+use Rattle.definition_instructions.specs.MicroOps.{executeOperation, microStep, microSteps, monitorStep, monitorSteps}
 use borrow.Author.Needs.{needs}
 use Rattle.integer_instructions.proofs.ad.Statement.{statement}
 use Rattle.integer_instructions.proofs.ad.Tie as tie
@@ -25,7 +26,18 @@ same-length c = search needs
 
 returns : tie.Need-returns
 unfolding execute executeOperation meaning microSteps microStep monitorSteps monitorStep
-returns c = (rw (← (c .before .before .before .before .before .before .before .before .before .clear-flags .ensures .0), ← (c .before .before .before .before .before .before .before .pair-at .ensures .0), ← (c .before .before .before .before .before .before .arithmetic48 .ensures .0), ← (c .before .before .before .before .note-overflow .ensures .0), ← (c .before .before .put-pair .ensures)), search needs)
+returns c = (
+  let b4 = c .before .before .before .before in
+      let b8 = b4 .before .before .before .before in
+      rw (
+        ← (b8 .before .clear-flags .ensures .0),
+        ← (b4 .before .before .before .pair-at .ensures .0),
+        ← (b4 .before .before .arithmetic48 .ensures .0),
+        ← (b4 .note-overflow .ensures .0),
+        ← (c .before .before .put-pair .ensures),
+      ),
+  search needs,
+)
 
 pub ad-spec : {M : Type 1} → statement M
 ad-spec =

@@ -1,6 +1,7 @@
+-- Made by tools/prove.py; not to be edited.
 use Rattle.definition_instructions.specs.Codes.{execute}
 use Rattle.definition_instructions.specs.Meaning.{meaning}
-use Rattle.definition_instructions.specs.MicroOps.{microStep, microSteps, monitorStep, monitorSteps, executeOperation}
+use Rattle.definition_instructions.specs.MicroOps.{executeOperation, microStep, microSteps, monitorStep, monitorSteps}
 use borrow.Author.Needs.{needs}
 use Rattle.integer_instructions.proofs.ba.Statement.{statement}
 use Rattle.integer_instructions.proofs.ba.Tie as tie
@@ -41,7 +42,23 @@ same-length-2 c = search needs
 
 returns-2 : tie.Need-returns-2
 unfolding execute executeOperation meaning microSteps microStep monitorSteps monitorStep
-returns-2 c = (rw (← (c .before .before .before .before .before .before .before .before .before .before .before .before .before .before .before .clear-flags .ensures .0), ← (c .before .before .before .before .before .before .before .before .before .before .before .before .before .is-absent .ensures), c .before .before .before .before .before .before .before .before .before .before .before .before .if1 .left, ← (c .before .before .before .before .before .before .before .before .before .before .word-at .ensures .0), ← (c .before .before .before .before .before .before .before .before .byte-at .ensures .0), ← (c .before .before .before .before .before .before .before .signed-byte .ensures .0), ← (c .before .before .before .before .before .before .add .ensures .0), ← (c .before .before .before .before .put-word .ensures), ← (c .test-integer .ensures .0)), search needs)
+returns-2 c = (
+  let b4 = c .before .before .before .before in
+      let b8 = b4 .before .before .before .before in
+      let b12 = b8 .before .before .before .before in
+      rw (
+        ← (b12 .before .before .before .clear-flags .ensures .0),
+        ← (b12 .before .is-absent .ensures),
+        b12 .if1 .left,
+        ← (b8 .before .before .word-at .ensures .0),
+        ← (b8 .byte-at .ensures .0),
+        ← (b4 .before .before .before .signed-byte .ensures .0),
+        ← (b4 .before .before .add .ensures .0),
+        ← (b4 .put-word .ensures),
+        ← (c .test-integer .ensures .0),
+      ),
+  search needs,
+)
 
 pub ba-spec : {M : Type 1} → statement M
 ba-spec =

@@ -1,6 +1,7 @@
+-- Made by tools/prove.py; not to be edited.
 use Rattle.definition_instructions.specs.Codes.{execute}
 use Rattle.definition_instructions.specs.Meaning.{meaning}
-use Rattle.definition_instructions.specs.MicroOps.{microStep, microSteps, monitorStep, monitorSteps, executeOperation}
+use Rattle.definition_instructions.specs.MicroOps.{executeOperation, microStep, microSteps, monitorStep, monitorSteps}
 use borrow.Author.Needs.{needs}
 use Rattle.integer_instructions.proofs.ld.Statement.{statement}
 use Rattle.integer_instructions.proofs.ld.Tie as tie
@@ -19,7 +20,11 @@ same-length c = search needs
 
 returns : tie.Need-returns
 unfolding execute executeOperation meaning microSteps microStep monitorSteps monitorStep
-returns c = (rw (← (c .before .before .before .before .before .pair-at .ensures .0), ← (c .before .before .before .before .logical48 .ensures .0), ← (c .before .before .put-pair .ensures)), search needs)
+returns c = (
+  let b4 = c .before .before .before .before in
+      rw (← (b4 .before .pair-at .ensures .0), ← (b4 .logical48 .ensures .0), ← (c .before .before .put-pair .ensures)),
+  search needs,
+)
 
 pub ld-spec : {M : Type 1} → statement M
 ld-spec =

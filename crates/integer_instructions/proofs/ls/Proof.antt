@@ -1,6 +1,7 @@
+-- Made by tools/prove.py; not to be edited.
 use Rattle.definition_instructions.specs.Codes.{execute}
 use Rattle.definition_instructions.specs.Meaning.{meaning}
-use Rattle.definition_instructions.specs.MicroOps.{microStep, microSteps, monitorStep, monitorSteps, executeOperation}
+use Rattle.definition_instructions.specs.MicroOps.{executeOperation, microStep, microSteps, monitorStep, monitorSteps}
 use borrow.Author.Needs.{needs}
 use Rattle.integer_instructions.proofs.ls.Statement.{statement}
 use Rattle.integer_instructions.proofs.ls.Tie as tie
@@ -19,7 +20,11 @@ same-length c = search needs
 
 returns : tie.Need-returns
 unfolding execute executeOperation meaning microSteps microStep monitorSteps monitorStep
-returns c = (rw (← (c .before .before .before .before .before .word-at .ensures .0), ← (c .before .before .before .before .logical24 .ensures .0), ← (c .before .before .put-word .ensures)), search needs)
+returns c = (
+  let b4 = c .before .before .before .before in
+      rw (← (b4 .before .word-at .ensures .0), ← (b4 .logical24 .ensures .0), ← (c .before .before .put-word .ensures)),
+  search needs,
+)
 
 pub ls-spec : {M : Type 1} → statement M
 ls-spec =

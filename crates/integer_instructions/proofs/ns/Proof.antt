@@ -1,6 +1,7 @@
+-- Made by tools/prove.py; not to be edited.
 use Rattle.definition_instructions.specs.Codes.{execute}
 use Rattle.definition_instructions.specs.Meaning.{meaning}
-use Rattle.definition_instructions.specs.MicroOps.{microStep, microSteps, monitorStep, monitorSteps, executeOperation}
+use Rattle.definition_instructions.specs.MicroOps.{executeOperation, microStep, microSteps, monitorStep, monitorSteps}
 use borrow.Author.Needs.{needs}
 use Rattle.integer_instructions.proofs.ns.Statement.{statement}
 use Rattle.integer_instructions.proofs.ns.Tie as tie
@@ -22,7 +23,18 @@ same-length c = search needs
 
 returns : tie.Need-returns
 unfolding execute executeOperation meaning microSteps microStep monitorSteps monitorStep
-returns c = (rw (← (c .before .before .before .before .before .before .before .before .word-at .ensures .0), ← (c .before .before .before .before .before .before .before .normalize-single .ensures .0), ← (c .before .before .before .before .before .put-long .ensures), ← (c .before .is-absent .ensures), c .if1 .taken), search needs)
+returns c = (
+  let b4 = c .before .before .before .before in
+      let b8 = b4 .before .before .before .before in
+      rw (
+        ← (b8 .word-at .ensures .0),
+        ← (b4 .before .before .before .normalize-single .ensures .0),
+        ← (b4 .before .put-long .ensures),
+        ← (c .before .is-absent .ensures),
+        c .if1 .taken,
+      ),
+  search needs,
+)
 
 is-violation-requires : tie.Need-is-violation-requires
 is-violation-requires c κs = search needs
@@ -32,7 +44,21 @@ same-length-2 c = search needs
 
 returns-2 : tie.Need-returns-2
 unfolding execute executeOperation meaning microSteps microStep monitorSteps monitorStep
-returns-2 c = (rw (← (c .before .before .before .before .before .before .before .before .before .before .before .before .word-at .ensures .0), ← (c .before .before .before .before .before .before .before .before .before .before .before .normalize-single .ensures .0), ← (c .before .before .before .before .before .before .before .before .before .put-long .ensures), ← (c .before .before .before .before .before .is-absent .ensures), c .before .before .before .before .if1 .left, ← (c .before .is-violation .ensures), c .if2 .taken), search needs)
+returns-2 c = (
+  let b4 = c .before .before .before .before in
+      let b8 = b4 .before .before .before .before in
+      let b12 = b8 .before .before .before .before in
+      rw (
+        ← (b12 .word-at .ensures .0),
+        ← (b8 .before .before .before .normalize-single .ensures .0),
+        ← (b8 .before .put-long .ensures),
+        ← (b4 .before .is-absent .ensures),
+        b4 .if1 .left,
+        ← (c .before .is-violation .ensures),
+        c .if2 .taken,
+      ),
+  search needs,
+)
 
 put-byte-requires : tie.Need-put-byte-requires
 put-byte-requires c κs = search needs
@@ -42,7 +68,23 @@ same-length-3 c = search needs
 
 returns-3 : tie.Need-returns-3
 unfolding execute executeOperation meaning microSteps microStep monitorSteps monitorStep
-returns-3 c = (rw (← (c .before .before .before .before .before .before .before .before .before .before .before .before .before .before .before .before .word-at .ensures .0), ← (c .before .before .before .before .before .before .before .before .before .before .before .before .before .before .before .normalize-single .ensures .0), ← (c .before .before .before .before .before .before .before .before .before .before .before .before .before .put-long .ensures), ← (c .before .before .before .before .before .before .before .before .before .is-absent .ensures), c .before .before .before .before .before .before .before .before .if1 .left, ← (c .before .before .before .before .before .is-violation .ensures), c .before .before .before .before .if2 .left, ← (c .before .before .put-byte .ensures)), search needs)
+returns-3 c = (
+  let b4 = c .before .before .before .before in
+      let b8 = b4 .before .before .before .before in
+      let b12 = b8 .before .before .before .before in
+      let b16 = b12 .before .before .before .before in
+      rw (
+        ← (b16 .word-at .ensures .0),
+        ← (b12 .before .before .before .normalize-single .ensures .0),
+        ← (b12 .before .put-long .ensures),
+        ← (b8 .before .is-absent .ensures),
+        b8 .if1 .left,
+        ← (b4 .before .is-violation .ensures),
+        b4 .if2 .left,
+        ← (c .before .before .put-byte .ensures),
+      ),
+  search needs,
+)
 
 pub ns-spec : {M : Type 1} → statement M
 ns-spec =

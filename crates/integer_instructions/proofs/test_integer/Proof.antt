@@ -1,3 +1,4 @@
+-- Made by tools/prove.py; not to be edited.
 use Rattle.machine.specs.Fields.{carrySet}
 use borrow.Author.Needs.{needs}
 use Rattle.integer_instructions.proofs.test_integer.Statement.{statement}

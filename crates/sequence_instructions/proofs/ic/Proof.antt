@@ -1,6 +1,7 @@
+-- Made by tools/prove.py; not to be edited.
 use Rattle.definition_instructions.specs.Codes.{execute}
 use Rattle.definition_instructions.specs.Meaning.{meaning}
-use Rattle.definition_instructions.specs.MicroOps.{microStep, microSteps, monitorStep, monitorSteps, executeOperation}
+use Rattle.definition_instructions.specs.MicroOps.{executeOperation, microStep, microSteps, monitorStep, monitorSteps}
 use borrow.Author.Needs.{needs}
 use Rattle.sequence_instructions.proofs.ic.Statement.{statement}
 use Rattle.sequence_instructions.proofs.ic.Tie as tie
@@ -23,7 +24,16 @@ set-ir-requires c κs = search needs
 
 returns-2 : tie.Need-returns-2
 unfolding execute executeOperation meaning microSteps microStep monitorSteps monitorStep
-returns-2 c = (rw (← (c .before .before .before .before .before .before .is-task .ensures), c .before .before .before .before .before .if1 .left, ← (rw (c .before .before .before .ir .ensures) at (c .before .before .clear24 .ensures .0)), ← (c .set-ir .ensures .0)), search needs)
+returns-2 c = (
+  let b4 = c .before .before .before .before in
+      rw (
+        ← (b4 .before .before .is-task .ensures),
+        b4 .before .if1 .left,
+        ← (rw (c .before .before .before .ir .ensures) at (c .before .before .clear24 .ensures .0)),
+        ← (c .set-ir .ensures .0),
+      ),
+  search needs,
+)
 
 pub ic-spec : {M : Type 1} → statement M
 ic-spec =

@@ -1,6 +1,7 @@
+-- Made by tools/prove.py; not to be edited.
 use Rattle.definition_instructions.specs.Codes.{execute}
 use Rattle.definition_instructions.specs.Meaning.{meaning}
-use Rattle.definition_instructions.specs.MicroOps.{microStep, microSteps, monitorStep, monitorSteps, executeOperation}
+use Rattle.definition_instructions.specs.MicroOps.{executeOperation, microStep, microSteps, monitorStep, monitorSteps}
 use borrow.Author.Needs.{needs}
 use Rattle.sequence_instructions.proofs.je.Statement.{statement}
 use Rattle.sequence_instructions.proofs.je.Tie as tie
@@ -20,7 +21,11 @@ same-length c = search needs
 
 returns-2 : tie.Need-returns-2
 unfolding execute executeOperation meaning microSteps microStep monitorSteps monitorStep
-returns-2 c = (rw (← (c .before .before .before .before .is-task .ensures), c .before .before .before .if1 .left, ← (c .before .is-absent .ensures), c .if2 .taken), search needs)
+returns-2 c = (
+  let b4 = c .before .before .before .before in
+      rw (← (b4 .is-task .ensures), c .before .before .before .if1 .left, ← (c .before .is-absent .ensures), c .if2 .taken),
+  search needs,
+)
 
 set-enabled-requires : tie.Need-set-enabled-requires
 set-enabled-requires c κs = search needs
@@ -42,7 +47,21 @@ same-length-2 c = search needs
 
 returns-3 : tie.Need-returns-3
 unfolding execute executeOperation meaning microSteps microStep monitorSteps monitorStep
-returns-3 c = (rw (← (c .before .before .before .before .before .before .before .before .before .before .before .before .before .before .is-task .ensures), c .before .before .before .before .before .before .before .before .before .before .before .before .before .if1 .left, ← (c .before .before .before .before .before .before .before .before .before .before .before .is-absent .ensures), c .before .before .before .before .before .before .before .before .before .before .if2 .left, ← (c .before .before .before .before .before .before .before .before .set-enabled .ensures .0), ← (rw (c .before .before .before .before .before .before .ic .ensures) at (c .before .before .before .before .put-link .ensures)), ← (c .set-ic .ensures .0)), search needs)
+returns-3 c = (
+  let b4 = c .before .before .before .before in
+      let b8 = b4 .before .before .before .before in
+      let b12 = b8 .before .before .before .before in
+      rw (
+        ← (b12 .before .before .is-task .ensures),
+        b12 .before .if1 .left,
+        ← (b8 .before .before .before .is-absent .ensures),
+        b8 .before .before .if2 .left,
+        ← (b8 .set-enabled .ensures .0),
+        ← (rw (b4 .before .before .ic .ensures) at (b4 .put-link .ensures)),
+        ← (c .set-ic .ensures .0),
+      ),
+  search needs,
+)
 
 pub je-spec : {M : Type 1} → statement M
 je-spec =

@@ -1,3 +1,4 @@
+-- Made by tools/prove.py; not to be edited.
 use Rattle.definition_instructions.specs.MicroOps.{skipped}
 use borrow.Author.Needs.{needs}
 use Rattle.sequence_instructions.proofs.skip_if.Statement.{statement}
@@ -14,7 +15,15 @@ set-ic-requires c κs = search needs
 
 returns : tie.Need-returns
 unfolding skipped
-returns c = (rw (← (rw (c .before .before .before .ic .ensures) at (c .before .before .sum24 .ensures .0)), ← (c .set-ic .ensures .0), c .before .before .before .before .before .if1 .taken), search needs)
+returns c = (
+  let b4 = c .before .before .before .before in
+      rw (
+        ← (rw (c .before .before .before .ic .ensures) at (c .before .before .sum24 .ensures .0)),
+        ← (c .set-ic .ensures .0),
+        b4 .before .if1 .taken,
+      ),
+  search needs,
+)
 
 returns-2 : tie.Need-returns-2
 unfolding skipped

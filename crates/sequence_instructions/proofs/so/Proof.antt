@@ -1,6 +1,7 @@
+-- Made by tools/prove.py; not to be edited.
 use Rattle.definition_instructions.specs.Codes.{execute}
 use Rattle.definition_instructions.specs.Meaning.{meaning}
-use Rattle.definition_instructions.specs.MicroOps.{microStep, microSteps, monitorStep, monitorSteps, executeOperation}
+use Rattle.definition_instructions.specs.MicroOps.{executeOperation, microStep, microSteps, monitorStep, monitorSteps}
 use borrow.Author.Needs.{needs}
 use Rattle.sequence_instructions.proofs.so.Statement.{statement}
 use Rattle.sequence_instructions.proofs.so.Tie as tie
@@ -19,7 +20,14 @@ same-length c = search needs
 
 returns : tie.Need-returns
 unfolding execute executeOperation meaning microSteps microStep monitorSteps monitorStep
-returns c = (rw (← (c .before .before .before .word-at .ensures .0), ← (c .before .before .bits-one .ensures), ← (c .skip-if .ensures .0)), search needs)
+returns c = (
+  rw (
+    ← (c .before .before .before .word-at .ensures .0),
+    ← (c .before .before .bits-one .ensures),
+    ← (c .skip-if .ensures .0),
+  ),
+  search needs,
+)
 
 pub so-spec : {M : Type 1} → statement M
 so-spec =

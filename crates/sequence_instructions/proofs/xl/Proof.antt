@@ -1,6 +1,7 @@
+-- Made by tools/prove.py; not to be edited.
 use Rattle.definition_instructions.specs.Codes.{execute}
 use Rattle.definition_instructions.specs.Meaning.{meaning}
-use Rattle.definition_instructions.specs.MicroOps.{microStep, microSteps, monitorStep, monitorSteps, executeOperation}
+use Rattle.definition_instructions.specs.MicroOps.{executeOperation, microStep, microSteps, monitorStep, monitorSteps}
 use borrow.Author.Needs.{needs}
 use Rattle.sequence_instructions.proofs.xl.Statement.{statement}
 use Rattle.sequence_instructions.proofs.xl.Tie as tie
@@ -26,7 +27,16 @@ same-length-2 c = search needs
 
 returns-2 : tie.Need-returns-2
 unfolding execute executeOperation meaning microSteps microStep monitorSteps monitorStep
-returns-2 c = (rw (← (c .before .before .before .before .before .is-absent .ensures), c .before .before .before .before .if1 .left, ← (c .before .before .byte-at .ensures .0), ← (c .set-ex .ensures .0)), search needs)
+returns-2 c = (
+  let b4 = c .before .before .before .before in
+      rw (
+        ← (b4 .before .is-absent .ensures),
+        b4 .if1 .left,
+        ← (c .before .before .byte-at .ensures .0),
+        ← (c .set-ex .ensures .0),
+      ),
+  search needs,
+)
 
 pub xl-spec : {M : Type 1} → statement M
 xl-spec =

@@ -1,6 +1,7 @@
+-- Made by tools/prove.py; not to be edited.
 use Rattle.definition_instructions.specs.Codes.{execute}
 use Rattle.definition_instructions.specs.Meaning.{meaning}
-use Rattle.definition_instructions.specs.MicroOps.{microStep, microSteps, monitorStep, monitorSteps, executeOperation}
+use Rattle.definition_instructions.specs.MicroOps.{executeOperation, microStep, microSteps, monitorStep, monitorSteps}
 use borrow.Author.Needs.{needs}
 use Rattle.sequence_instructions.proofs.xs.Statement.{statement}
 use Rattle.sequence_instructions.proofs.xs.Tie as tie
@@ -23,7 +24,11 @@ same-length-2 c = search needs
 
 returns-2 : tie.Need-returns-2
 unfolding execute executeOperation meaning microSteps microStep monitorSteps monitorStep
-returns-2 c = (rw (← (c .before .before .before .before .before .is-absent .ensures), c .before .before .before .before .if1 .left, ← (c .before .is-violation .ensures), c .if2 .taken), search needs)
+returns-2 c = (
+  let b4 = c .before .before .before .before in
+      rw (← (b4 .before .is-absent .ensures), b4 .if1 .left, ← (c .before .is-violation .ensures), c .if2 .taken),
+  search needs,
+)
 
 ex-requires : tie.Need-ex-requires
 ex-requires c κs = search needs
@@ -36,7 +41,18 @@ same-length-3 c = search needs
 
 returns-3 : tie.Need-returns-3
 unfolding execute executeOperation meaning microSteps microStep monitorSteps monitorStep
-returns-3 c = (rw (← (c .before .before .before .before .before .before .before .before .before .before .before .is-absent .ensures), c .before .before .before .before .before .before .before .before .before .before .if1 .left, ← (c .before .before .before .before .before .before .before .is-violation .ensures), c .before .before .before .before .before .before .if2 .left, ← (rw (c .before .before .before .before .ex .ensures) at (c .before .before .put-byte .ensures))), search needs)
+returns-3 c = (
+  let b4 = c .before .before .before .before in
+      let b8 = b4 .before .before .before .before in
+      rw (
+        ← (b8 .before .before .before .is-absent .ensures),
+        b8 .before .before .if1 .left,
+        ← (b4 .before .before .before .is-violation .ensures),
+        b4 .before .before .if2 .left,
+        ← (rw (b4 .ex .ensures) at (c .before .before .put-byte .ensures)),
+      ),
+  search needs,
+)
 
 pub xs-spec : {M : Type 1} → statement M
 xs-spec =

@@ -1,6 +1,7 @@
+-- Made by tools/prove.py; not to be edited.
 use Rattle.definition_instructions.specs.Codes.{execute}
 use Rattle.definition_instructions.specs.Meaning.{meaning}
-use Rattle.definition_instructions.specs.MicroOps.{microStep, microSteps, monitorStep, monitorSteps, executeOperation}
+use Rattle.definition_instructions.specs.MicroOps.{executeOperation, microStep, microSteps, monitorStep, monitorSteps}
 use borrow.Author.Needs.{needs}
 use Rattle.transfer_instructions.proofs.al.Statement.{statement}
 use Rattle.transfer_instructions.proofs.al.Tie as tie

@@ -1,6 +1,7 @@
+-- Made by tools/prove.py; not to be edited.
 use Rattle.definition_instructions.specs.Codes.{execute}
 use Rattle.definition_instructions.specs.Meaning.{meaning}
-use Rattle.definition_instructions.specs.MicroOps.{microStep, microSteps, monitorStep, monitorSteps, executeOperation}
+use Rattle.definition_instructions.specs.MicroOps.{executeOperation, microStep, microSteps, monitorStep, monitorSteps}
 use borrow.Author.Needs.{needs}
 use Rattle.transfer_instructions.proofs.bl.Statement.{statement}
 use Rattle.transfer_instructions.proofs.bl.Tie as tie
@@ -29,7 +30,18 @@ same-length-2 c = search needs
 
 returns-2 : tie.Need-returns-2
 unfolding execute executeOperation meaning microSteps microStep monitorSteps monitorStep
-returns-2 c = (rw (← (c .before .before .before .before .before .before .before .before .is-absent .ensures), c .before .before .before .before .before .before .before .if1 .left, ← (c .before .before .before .before .before .byte-at .ensures .0), ← (c .before .before .before .before .signed-byte .ensures .0), ← (c .before .before .put-word .ensures)), search needs)
+returns-2 c = (
+  let b4 = c .before .before .before .before in
+      let b8 = b4 .before .before .before .before in
+      rw (
+        ← (b8 .is-absent .ensures),
+        b4 .before .before .before .if1 .left,
+        ← (b4 .before .byte-at .ensures .0),
+        ← (b4 .signed-byte .ensures .0),
+        ← (c .before .before .put-word .ensures),
+      ),
+  search needs,
+)
 
 pub bl-spec : {M : Type 1} → statement M
 bl-spec =

@@ -1,6 +1,7 @@
+-- Made by tools/prove.py; not to be edited.
 use Rattle.definition_instructions.specs.Codes.{execute}
 use Rattle.definition_instructions.specs.Meaning.{meaning}
-use Rattle.definition_instructions.specs.MicroOps.{microStep, microSteps, monitorStep, monitorSteps, executeOperation}
+use Rattle.definition_instructions.specs.MicroOps.{executeOperation, microStep, microSteps, monitorStep, monitorSteps}
 use borrow.Author.Needs.{needs}
 use Rattle.transfer_instructions.proofs.dl.Statement.{statement}
 use Rattle.transfer_instructions.proofs.dl.Tie as tie
@@ -38,7 +39,22 @@ same-length-2 c = search needs
 
 returns-2 : tie.Need-returns-2
 unfolding execute executeOperation meaning microSteps microStep monitorSteps monitorStep
-returns-2 c = (rw (← (c .before .before .before .before .before .before .before .before .before .before .before .before .before .before .before .is-absent .ensures), c .before .before .before .before .before .before .before .before .before .before .before .before .before .before .if1 .left, ← (c .before .before .before .before .before .before .before .before .before .before .before .before .word-at .ensures .0), ← (c .before .before .before .before .before .before .before .before .before .before .put-word .ensures), ← (c .before .before .before .before .before .before .before .first-word .ensures), ← (c .before .before .before .before .before .word-at2 .ensures .0), ← (c .before .before .before .before .previous-register .ensures), ← (c .before .before .put-word2 .ensures)), search needs)
+returns-2 c = (
+  let b4 = c .before .before .before .before in
+      let b8 = b4 .before .before .before .before in
+      let b12 = b8 .before .before .before .before in
+      rw (
+        ← (b12 .before .before .before .is-absent .ensures),
+        b12 .before .before .if1 .left,
+        ← (b12 .word-at .ensures .0),
+        ← (b8 .before .before .put-word .ensures),
+        ← (b4 .before .before .before .first-word .ensures),
+        ← (b4 .before .word-at2 .ensures .0),
+        ← (b4 .previous-register .ensures),
+        ← (c .before .before .put-word2 .ensures),
+      ),
+  search needs,
+)
 
 pub dl-spec : {M : Type 1} → statement M
 dl-spec =

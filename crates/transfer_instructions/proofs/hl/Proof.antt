@@ -1,6 +1,7 @@
+-- Made by tools/prove.py; not to be edited.
 use Rattle.definition_instructions.specs.Codes.{execute}
 use Rattle.definition_instructions.specs.Meaning.{meaning}
-use Rattle.definition_instructions.specs.MicroOps.{microStep, microSteps, monitorStep, monitorSteps, executeOperation}
+use Rattle.definition_instructions.specs.MicroOps.{executeOperation, microStep, microSteps, monitorStep, monitorSteps}
 use borrow.Author.Needs.{needs}
 use Rattle.transfer_instructions.proofs.hl.Statement.{statement}
 use Rattle.transfer_instructions.proofs.hl.Tie as tie
@@ -35,7 +36,18 @@ same-length-2 c = search needs
 
 returns-2 : tie.Need-returns-2
 unfolding execute executeOperation meaning microSteps microStep monitorSteps monitorStep
-returns-2 c = (rw (← (c .before .before .before .before .before .before .before .before .before .is-absent .ensures), c .before .before .before .before .before .before .before .before .if1 .left, ← (c .before .before .before .before .before .before .word-at .ensures .0), ← (c .before .before .before .before .byte-at .ensures .0), ← (c .before .before .put-word .ensures)), search needs)
+returns-2 c = (
+  let b4 = c .before .before .before .before in
+      let b8 = b4 .before .before .before .before in
+      rw (
+        ← (b8 .before .is-absent .ensures),
+        b8 .if1 .left,
+        ← (b4 .before .before .word-at .ensures .0),
+        ← (b4 .byte-at .ensures .0),
+        ← (c .before .before .put-word .ensures),
+      ),
+  search needs,
+)
 
 pub hl-spec : {M : Type 1} → statement M
 hl-spec =

@@ -1,6 +1,7 @@
+-- Made by tools/prove.py; not to be edited.
 use Rattle.definition_instructions.specs.Codes.{execute}
 use Rattle.definition_instructions.specs.Meaning.{meaning}
-use Rattle.definition_instructions.specs.MicroOps.{microStep, microSteps, monitorStep, monitorSteps, executeOperation}
+use Rattle.definition_instructions.specs.MicroOps.{executeOperation, microStep, microSteps, monitorStep, monitorSteps}
 use borrow.Author.Needs.{needs}
 use Rattle.transfer_instructions.proofs.rx.Statement.{statement}
 use Rattle.transfer_instructions.proofs.rx.Tie as tie
@@ -32,7 +33,21 @@ same-length-2 c = search needs
 
 returns-2 : tie.Need-returns-2
 unfolding execute executeOperation meaning microSteps microStep monitorSteps monitorStep
-returns-2 c = (rw (← (c .before .before .before .before .before .before .before .before .before .before .before .before .before .is-absent .ensures), c .before .before .before .before .before .before .before .before .before .before .before .before .if1 .left, ← (c .before .before .before .before .before .before .before .before .before .before .word-at .ensures .0), ← (c .before .before .before .before .before .before .before .before .word-at2 .ensures .0), ← (c .before .before .before .before .before .before .put-word .ensures), ← (c .before .is-violation .ensures), c .if2 .taken), search needs)
+returns-2 c = (
+  let b4 = c .before .before .before .before in
+      let b8 = b4 .before .before .before .before in
+      let b12 = b8 .before .before .before .before in
+      rw (
+        ← (b12 .before .is-absent .ensures),
+        b12 .if1 .left,
+        ← (b8 .before .before .word-at .ensures .0),
+        ← (b8 .word-at2 .ensures .0),
+        ← (b4 .before .before .put-word .ensures),
+        ← (c .before .is-violation .ensures),
+        c .if2 .taken,
+      ),
+  search needs,
+)
 
 put-word-requires-2 : tie.Need-put-word-requires-2
 put-word-requires-2 c κs = search needs
@@ -42,7 +57,23 @@ same-length-3 c = search needs
 
 returns-3 : tie.Need-returns-3
 unfolding execute executeOperation meaning microSteps microStep monitorSteps monitorStep
-returns-3 c = (rw (← (c .before .before .before .before .before .before .before .before .before .before .before .before .before .before .before .before .before .is-absent .ensures), c .before .before .before .before .before .before .before .before .before .before .before .before .before .before .before .before .if1 .left, ← (c .before .before .before .before .before .before .before .before .before .before .before .before .before .before .word-at .ensures .0), ← (c .before .before .before .before .before .before .before .before .before .before .before .before .word-at2 .ensures .0), ← (c .before .before .before .before .before .before .before .before .before .before .put-word .ensures), ← (c .before .before .before .before .before .is-violation .ensures), c .before .before .before .before .if2 .left, ← (c .before .before .put-word2 .ensures)), search needs)
+returns-3 c = (
+  let b4 = c .before .before .before .before in
+      let b8 = b4 .before .before .before .before in
+      let b12 = b8 .before .before .before .before in
+      let b16 = b12 .before .before .before .before in
+      rw (
+        ← (b16 .before .is-absent .ensures),
+        b16 .if1 .left,
+        ← (b12 .before .before .word-at .ensures .0),
+        ← (b12 .word-at2 .ensures .0),
+        ← (b8 .before .before .put-word .ensures),
+        ← (b4 .before .is-violation .ensures),
+        b4 .if2 .left,
+        ← (c .before .before .put-word2 .ensures),
+      ),
+  search needs,
+)
 
 pub rx-spec : {M : Type 1} → statement M
 rx-spec =
