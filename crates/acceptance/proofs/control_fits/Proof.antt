@@ -1,3 +1,4 @@
+-- Made by tools/prove.py; not to be edited.
 use Rattle.acceptance.specs.Accept.{controlFits}
 use borrow.Author.Tests.{le-ltb, lt-ltb}
 use borrow.Author.Needs.{needs}
@@ -14,30 +15,83 @@ returns-2 c = rw (lt-ltb _ _ (c .before .before .if1 .left), le-ltb _ _ (c .if2 
 
 returns-3 : tie.Need-returns-3
 unfolding controlFits
-returns-3 c = rw (lt-ltb _ _ (c .before .before .before .before .if1 .left), lt-ltb _ _ (c .before .before .if2 .left), le-ltb _ _ (c .if3 .taken))
+returns-3 c =
+    let b4 = c .before .before .before .before in
+    rw (lt-ltb _ _ (b4 .if1 .left), lt-ltb _ _ (c .before .before .if2 .left), le-ltb _ _ (c .if3 .taken))
 
 returns-4 : tie.Need-returns-4
 unfolding controlFits
-returns-4 c = rw (lt-ltb _ _ (c .before .before .before .before .before .before .if1 .left), lt-ltb _ _ (c .before .before .before .before .if2 .left), lt-ltb _ _ (c .before .before .if3 .left), le-ltb _ _ (c .if4 .taken))
+returns-4 c =
+    let b4 = c .before .before .before .before in
+    rw (
+      lt-ltb _ _ (b4 .before .before .if1 .left),
+      lt-ltb _ _ (b4 .if2 .left),
+      lt-ltb _ _ (c .before .before .if3 .left),
+      le-ltb _ _ (c .if4 .taken),
+    )
 
 returns-5 : tie.Need-returns-5
 unfolding controlFits
-returns-5 c = rw (lt-ltb _ _ (c .before .before .before .before .before .before .before .before .if1 .left), lt-ltb _ _ (c .before .before .before .before .before .before .if2 .left), lt-ltb _ _ (c .before .before .before .before .if3 .left), lt-ltb _ _ (c .before .before .if4 .left), lt-ltb _ _ (c .if5 .taken))
+returns-5 c =
+    let b4 = c .before .before .before .before in
+    let b8 = b4 .before .before .before .before in
+    rw (
+      lt-ltb _ _ (b8 .if1 .left),
+      lt-ltb _ _ (b4 .before .before .if2 .left),
+      lt-ltb _ _ (b4 .if3 .left),
+      lt-ltb _ _ (c .before .before .if4 .left),
+      lt-ltb _ _ (c .if5 .taken),
+    )
 
 returns-6 : tie.Need-returns-6
 unfolding controlFits
-returns-6 c = rw (lt-ltb _ _ (c .before .before .before .before .before .before .before .before .before .before .if1 .left), lt-ltb _ _ (c .before .before .before .before .before .before .before .before .if2 .left), lt-ltb _ _ (c .before .before .before .before .before .before .if3 .left), lt-ltb _ _ (c .before .before .before .before .if4 .left), le-ltb _ _ (c .before .before .if5 .left), le-ltb _ _ (c .if6 .taken))
+returns-6 c =
+    let b4 = c .before .before .before .before in
+    let b8 = b4 .before .before .before .before in
+    rw (
+      lt-ltb _ _ (b8 .before .before .if1 .left),
+      lt-ltb _ _ (b8 .if2 .left),
+      lt-ltb _ _ (b4 .before .before .if3 .left),
+      lt-ltb _ _ (b4 .if4 .left),
+      le-ltb _ _ (c .before .before .if5 .left),
+      le-ltb _ _ (c .if6 .taken),
+    )
 
 returns-7 : tie.Need-returns-7
 unfolding controlFits
-returns-7 c = rw (lt-ltb _ _ (c .before .before .before .before .before .before .before .before .before .before .before .before .if1 .left), lt-ltb _ _ (c .before .before .before .before .before .before .before .before .before .before .if2 .left), lt-ltb _ _ (c .before .before .before .before .before .before .before .before .if3 .left), lt-ltb _ _ (c .before .before .before .before .before .before .if4 .left), le-ltb _ _ (c .before .before .before .before .if5 .left), lt-ltb _ _ (c .before .before .if6 .left), le-ltb _ _ (c .if7 .taken))
+returns-7 c =
+    let b4 = c .before .before .before .before in
+    let b8 = b4 .before .before .before .before in
+    let b12 = b8 .before .before .before .before in
+    rw (
+      lt-ltb _ _ (b12 .if1 .left),
+      lt-ltb _ _ (b8 .before .before .if2 .left),
+      lt-ltb _ _ (b8 .if3 .left),
+      lt-ltb _ _ (b4 .before .before .if4 .left),
+      le-ltb _ _ (b4 .if5 .left),
+      lt-ltb _ _ (c .before .before .if6 .left),
+      le-ltb _ _ (c .if7 .taken),
+    )
 
 state-fits-requires : tie.Need-state-fits-requires
 state-fits-requires c κs = search needs
 
 returns-8 : tie.Need-returns-8
 unfolding controlFits
-returns-8 c = rw (lt-ltb _ _ (c .before .before .before .before .before .before .before .before .before .before .before .before .before .if1 .left), lt-ltb _ _ (c .before .before .before .before .before .before .before .before .before .before .before .if2 .left), lt-ltb _ _ (c .before .before .before .before .before .before .before .before .before .if3 .left), lt-ltb _ _ (c .before .before .before .before .before .before .before .if4 .left), le-ltb _ _ (c .before .before .before .before .before .if5 .left), lt-ltb _ _ (c .before .before .before .if6 .left), lt-ltb _ _ (c .before .if7 .left), ← (c .state-fits .ensures))
+returns-8 c =
+    let b4 = c .before .before .before .before in
+    let b8 = b4 .before .before .before .before in
+    let b12 = b8 .before .before .before .before in
+    rw (
+      lt-ltb _ _ (b12 .before .if1 .left),
+      lt-ltb _ _ (b8 .before .before .before .if2 .left),
+      lt-ltb _ _ (b8 .before .if3 .left),
+      lt-ltb _ _ (b4 .before .before .before .if4 .left),
+      le-ltb _ _ (b4 .before .if5 .left),
+      lt-ltb _ _ (c .before .before .before .if6 .left),
+      lt-ltb _ _ (c .before .if7 .left),
+      ← (c .state-fits .ensures),
+    )
 
 pub control-fits-spec : {M : Type 1} → statement M
 control-fits-spec =

@@ -1,3 +1,4 @@
+-- Made by tools/prove.py; not to be edited.
 use Rattle.acceptance.specs.Accept.{devicesFit}
 use borrow.Author.Tests.{le-ltb, lt-ltb}
 use borrow.Author.Needs.{needs}
@@ -17,7 +18,12 @@ characters-fit-requires c κs = search needs
 
 returns-3 : tie.Need-returns-3
 unfolding devicesFit
-returns-3 c = rw (lt-ltb _ _ (c .before .before .before .if1 .left), lt-ltb _ _ (c .before .if2 .left), ← (c .characters-fit .ensures))
+returns-3 c =
+    rw (
+      lt-ltb _ _ (c .before .before .before .if1 .left),
+      lt-ltb _ _ (c .before .if2 .left),
+      ← (c .characters-fit .ensures),
+    )
 
 pub devices-fit-spec : {M : Type 1} → statement M
 devices-fit-spec = tie.close (tie.spec returns returns-2 characters-fit-requires returns-3)

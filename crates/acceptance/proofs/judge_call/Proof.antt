@@ -1,3 +1,4 @@
+-- Made by tools/prove.py; not to be edited.
 use borrow.Author.Tests.{le-ltb, lt-ltb}
 use borrow.Author.Needs.{needs}
 use Rattle.acceptance.proofs.judge_call.Statement.{statement}
@@ -13,13 +14,27 @@ returns : tie.Need-returns
 returns c = rw (← (c .before .before .before .judge-machine .ensures), c .before .enum-told .given .1, le-ltb _ _ (c .if1 .taken))
 
 returns-2 : tie.Need-returns-2
-returns-2 c = rw (← (c .before .before .before .before .judge-machine .ensures), c .before .before .enum-told .given .1, lt-ltb _ _ (c .before .if1 .left), le-ltb _ _ (c .if2 .taken))
+returns-2 c =
+    let b4 = c .before .before .before .before in
+    rw (
+      ← (b4 .judge-machine .ensures),
+      c .before .before .enum-told .given .1,
+      lt-ltb _ _ (c .before .if1 .left),
+      le-ltb _ _ (c .if2 .taken),
+    )
 
 enum-known-v : tie.Need-enum-known-v
 enum-known-v c = search needs
 
 returns-3 : tie.Need-returns-3
-returns-3 c = rw (← (c .before .before .before .before .judge-machine .ensures), c .before .before .enum-told .given .1, lt-ltb _ _ (c .before .if1 .left), lt-ltb _ _ (c .if2 .left))
+returns-3 c =
+    let b4 = c .before .before .before .before in
+    rw (
+      ← (b4 .judge-machine .ensures),
+      c .before .before .enum-told .given .1,
+      lt-ltb _ _ (c .before .if1 .left),
+      lt-ltb _ _ (c .if2 .left),
+    )
 
 returns-4 : tie.Need-returns-4
 returns-4 c = rw (← (c .before .before .before .judge-machine .ensures), c .before .v .given .1)

@@ -1,3 +1,4 @@
+-- Made by tools/prove.py; not to be edited.
 use borrow.Author.Tests.{not-true, not-false}
 use borrow.Author.Needs.{needs}
 use Rattle.acceptance.proofs.judge_devices.Statement.{statement}
@@ -10,13 +11,23 @@ devices-fit-requires : tie.Need-devices-fit-requires
 devices-fit-requires c κs = search needs
 
 returns : tie.Need-returns
-returns c = rw (c .before .before .enum-told .given .1, ← (c .before .devices-fit .ensures), not-true (c .before .devices-fit .result) (c .if1 .taken))
+returns c =
+    rw (
+      c .before .before .enum-told .given .1,
+      ← (c .before .devices-fit .ensures),
+      not-true (c .before .devices-fit .result) (c .if1 .taken),
+    )
 
 enum-known-v : tie.Need-enum-known-v
 enum-known-v c = search needs
 
 returns-2 : tie.Need-returns-2
-returns-2 c = rw (c .before .before .enum-told .given .1, ← (c .before .devices-fit .ensures), not-false (c .before .devices-fit .result) (c .if1 .left))
+returns-2 c =
+    rw (
+      c .before .before .enum-told .given .1,
+      ← (c .before .devices-fit .ensures),
+      not-false (c .before .devices-fit .result) (c .if1 .left),
+    )
 
 returns-3 : tie.Need-returns-3
 returns-3 c = rw (c .before .v .given .1)

@@ -1,3 +1,4 @@
+-- Made by tools/prove.py; not to be edited.
 use borrow.Author.Tests.{not-true, not-false}
 use Rattle.acceptance.specs.Accept.{judgeMachine}
 use borrow.Author.Needs.{needs}
@@ -16,18 +17,42 @@ cells-fit-requires c κs = search needs
 
 returns-2 : tie.Need-returns-2
 unfolding judgeMachine
-returns-2 c = rw (← (c .before .before .before .size-fits .ensures), not-false (c .before .before .before .size-fits .result) (c .before .before .if1 .left), ← (c .before .cells-fit .ensures), not-true (c .before .cells-fit .result) (c .if2 .taken))
+returns-2 c =
+    rw (
+      ← (c .before .before .before .size-fits .ensures),
+      not-false (c .before .before .before .size-fits .result) (c .before .before .if1 .left),
+      ← (c .before .cells-fit .ensures),
+      not-true (c .before .cells-fit .result) (c .if2 .taken),
+    )
 
 control-fits-requires : tie.Need-control-fits-requires
 control-fits-requires c κs = search needs
 
 returns-3 : tie.Need-returns-3
 unfolding judgeMachine
-returns-3 c = rw (← (c .before .before .before .before .before .size-fits .ensures), not-false (c .before .before .before .before .before .size-fits .result) (c .before .before .before .before .if1 .left), ← (c .before .before .before .cells-fit .ensures), not-false (c .before .before .before .cells-fit .result) (c .before .before .if2 .left), ← (c .before .control-fits .ensures), not-true (c .before .control-fits .result) (c .if3 .taken))
+returns-3 c =
+    let b4 = c .before .before .before .before in
+    rw (
+      ← (b4 .before .size-fits .ensures),
+      not-false (b4 .before .size-fits .result) (b4 .if1 .left),
+      ← (c .before .before .before .cells-fit .ensures),
+      not-false (c .before .before .before .cells-fit .result) (c .before .before .if2 .left),
+      ← (c .before .control-fits .ensures),
+      not-true (c .before .control-fits .result) (c .if3 .taken),
+    )
 
 returns-4 : tie.Need-returns-4
 unfolding judgeMachine
-returns-4 c = rw (← (c .before .before .before .before .before .size-fits .ensures), not-false (c .before .before .before .before .before .size-fits .result) (c .before .before .before .before .if1 .left), ← (c .before .before .before .cells-fit .ensures), not-false (c .before .before .before .cells-fit .result) (c .before .before .if2 .left), ← (c .before .control-fits .ensures), not-false (c .before .control-fits .result) (c .if3 .left))
+returns-4 c =
+    let b4 = c .before .before .before .before in
+    rw (
+      ← (b4 .before .size-fits .ensures),
+      not-false (b4 .before .size-fits .result) (b4 .if1 .left),
+      ← (c .before .before .before .cells-fit .ensures),
+      not-false (c .before .before .before .cells-fit .result) (c .before .before .if2 .left),
+      ← (c .before .control-fits .ensures),
+      not-false (c .before .control-fits .result) (c .if3 .left),
+    )
 
 pub judge-machine-spec : {M : Type 1} → statement M
 judge-machine-spec =

@@ -1,3 +1,4 @@
+-- Made by tools/prove.py; not to be edited.
 use borrow.Author.Tests.{not-true, not-false}
 use Rattle.acceptance.specs.Accept.{judgeStore}
 use borrow.Author.Needs.{needs}
@@ -16,11 +17,23 @@ cells-fit-requires c κs = search needs
 
 returns-2 : tie.Need-returns-2
 unfolding judgeStore
-returns-2 c = rw (← (c .before .before .before .size-fits .ensures), not-false (c .before .before .before .size-fits .result) (c .before .before .if1 .left), ← (c .before .cells-fit .ensures), not-true (c .before .cells-fit .result) (c .if2 .taken))
+returns-2 c =
+    rw (
+      ← (c .before .before .before .size-fits .ensures),
+      not-false (c .before .before .before .size-fits .result) (c .before .before .if1 .left),
+      ← (c .before .cells-fit .ensures),
+      not-true (c .before .cells-fit .result) (c .if2 .taken),
+    )
 
 returns-3 : tie.Need-returns-3
 unfolding judgeStore
-returns-3 c = rw (← (c .before .before .before .size-fits .ensures), not-false (c .before .before .before .size-fits .result) (c .before .before .if1 .left), ← (c .before .cells-fit .ensures), not-false (c .before .cells-fit .result) (c .if2 .left))
+returns-3 c =
+    rw (
+      ← (c .before .before .before .size-fits .ensures),
+      not-false (c .before .before .before .size-fits .result) (c .before .before .if1 .left),
+      ← (c .before .cells-fit .ensures),
+      not-false (c .before .cells-fit .result) (c .if2 .left),
+    )
 
 pub judge-store-spec : {M : Type 1} → statement M
 judge-store-spec =
