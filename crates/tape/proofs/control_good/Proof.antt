@@ -1,3 +1,4 @@
+-- Made by tools/prove.py; not to be edited.
 use Rattle.tape.specs.Judge.{controlGood}
 use borrow.Author.Tests.{ne-eqb, eq-eqb, lt-leb, le-leb}
 use borrow.Author.Needs.{needs}
@@ -26,7 +27,14 @@ control-fits-requires c κs = search needs
 
 returns-3 : tie.Need-returns-3
 unfolding controlGood
-returns-3 c = rw (le-leb _ _ (c .before .before .before .before .if1 .left), eq-eqb _ _ (c .before .before .if2 .left), ← (c .before .control-of .ensures), ← (c .control-fits .ensures))
+returns-3 c =
+    let b4 = c .before .before .before .before in
+    rw (
+      le-leb _ _ (b4 .if1 .left),
+      eq-eqb _ _ (c .before .before .if2 .left),
+      ← (c .before .control-of .ensures),
+      ← (c .control-fits .ensures),
+    )
 
 pub control-good-spec : {M : Type 1} → statement M
 control-good-spec =

@@ -1,3 +1,4 @@
+-- Made by tools/prove.py; not to be edited.
 use Rattle.tape.specs.Judge.{judgeBlock}
 use Rattle.tape.specs.Layout.{blockCells}
 use borrow.Author.Tests.{lt-leb, not-true, not-false, le-leb}
@@ -26,11 +27,23 @@ block-cells-fit-requires c κs = search needs
 
 returns-2 : tie.Need-returns-2
 unfolding judgeBlock blockCells
-returns-2 c = rw (← (c .before .before .before .number-at .ensures), le-leb _ _ (c .before .before .if1 .left), ← (c .before .block-cells-fit .ensures), not-true (c .before .block-cells-fit .result) (c .if2 .taken))
+returns-2 c =
+    rw (
+      ← (c .before .before .before .number-at .ensures),
+      le-leb _ _ (c .before .before .if1 .left),
+      ← (c .before .block-cells-fit .ensures),
+      not-true (c .before .block-cells-fit .result) (c .if2 .taken),
+    )
 
 returns-3 : tie.Need-returns-3
 unfolding judgeBlock blockCells
-returns-3 c = rw (← (c .before .before .before .number-at .ensures), le-leb _ _ (c .before .before .if1 .left), ← (c .before .block-cells-fit .ensures), not-false (c .before .block-cells-fit .result) (c .if2 .left))
+returns-3 c =
+    rw (
+      ← (c .before .before .before .number-at .ensures),
+      le-leb _ _ (c .before .before .if1 .left),
+      ← (c .before .block-cells-fit .ensures),
+      not-false (c .before .block-cells-fit .result) (c .if2 .left),
+    )
 
 pub judge-block-spec : {M : Type 1} → statement M
 judge-block-spec =

@@ -1,3 +1,4 @@
+-- Made by tools/prove.py; not to be edited.
 use borrow.Author.Tests.{not-true, not-false}
 use Rattle.tape.specs.Judge.{judgeControl}
 use borrow.Author.Needs.{needs}

@@ -1,3 +1,4 @@
+-- Made by tools/prove.py; not to be edited.
 use Rattle.tape.specs.Steps.{stepAfter}
 use borrow.Author.Tests.{ne-eqb, eq-eqb, lt-leb, le-leb}
 use borrow.Author.Needs.{needs}
@@ -19,11 +20,23 @@ returns c = rw (← (c .before .before .record-kind .ensures), ← (c .before .r
 
 returns-2 : tie.Need-returns-2
 unfolding stepAfter
-returns-2 c = rw (← (c .before .before .before .record-kind .ensures), ← (c .before .before .record-length .ensures .0), eq-eqb _ _ (c .before .if1 .left), lt-leb _ _ (c .if2 .taken))
+returns-2 c =
+    rw (
+      ← (c .before .before .before .record-kind .ensures),
+      ← (c .before .before .record-length .ensures .0),
+      eq-eqb _ _ (c .before .if1 .left),
+      lt-leb _ _ (c .if2 .taken),
+    )
 
 returns-3 : tie.Need-returns-3
 unfolding stepAfter
-returns-3 c = rw (← (c .before .before .before .record-kind .ensures), ← (c .before .before .record-length .ensures .0), eq-eqb _ _ (c .before .if1 .left), le-leb _ _ (c .if2 .left))
+returns-3 c =
+    rw (
+      ← (c .before .before .before .record-kind .ensures),
+      ← (c .before .before .record-length .ensures .0),
+      eq-eqb _ _ (c .before .if1 .left),
+      le-leb _ _ (c .if2 .left),
+    )
 
 pub step-after-spec : {M : Type 1} → statement M
 step-after-spec =
