@@ -110,6 +110,10 @@ class Loadrun(unittest.TestCase):
         os.utime(self.source, (time.time() + 9, time.time() + 9))
         self.ended(self.run_script(self.tape), 0, "spent 100 0 18\n", "[ 1 of ")
 
+    def test_it_proves_where_standard_error_is_closed(self):
+        self.ended(self.run_in_shell(f"{self.tape} 2>&-"), 0, "spent 100 0 18\n")
+        self.assertEqual((self.room / "asked").read_text(), "check loadrun\n")
+
     def test_what_is_not_proved_is_shown(self):
         (self.room / "refuse").touch()
         done = self.run_script(self.tape)
