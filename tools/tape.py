@@ -4,7 +4,8 @@
     tape.py LISTING TAPE        write the tape of a listing
     tape.py --check LISTING..   see that LISTING.txt makes the LISTING.tape beside it
 
-A listing has one item a line; `;` starts a comment.
+A listing has one item a line; `;` starts a comment, behind a remark or a text too. Spaces at the ends of these are
+dropped.
 
     remark TEXT                 a remark record, the rest of the line: at most 255 bytes
     block ADDRESS [key K]       a block from this byte address (even) on; its cells follow, one or more
@@ -13,7 +14,8 @@ A listing has one item a line; `;` starts a comment.
                                 label, which counts from the instruction itself where M is 2 or 3
     [LABEL:] word N             a word, decimal or 0x.., -8388608 to 16777215; a label's address too
     [LABEL:] bytes A B          two bytes in one word, -2048 to 4095 each
-    [LABEL:] float X            a floating-point number, two words; a label is the second word's address
+    [LABEL:] float X            a floating-point number, two words; a label is the second word's address; X is 0 or, with
+                                either sign, 2.3e-308 to 1.7e308
     key K                       the key of the cells that follow, 0 to 7
     control [IC=N] [IR=N] [IM=N] [pending=N] [PR=N] [EX=N] [monitor] [enabled] [reset]
                                 the control record; PR is 128 where it is not given
@@ -54,14 +56,14 @@ class Placed(Error):
 
 def within(value, low, high, what):
     if not low <= value <= high:
-        raise Error(f"{what} is {low} to {high}, not {value}")
+        raise Error(f"{what} is {low} to {high}, not {value if abs(value) < 2**64 else 'so long a number'}")
     return value
 
 
 def number(text, labels):
     if text in labels:
         return labels[text]
-    bit = re.fullmatch(r"bit(\d+)", text)
+    bit = re.fullmatch(r"bit(\d\d?)", text)
     if bit:
         return 1 << (23 - within(int(bit[1]), 0, 23, "a bit"))
     if len(text) == 2 and text[0] == "'":
@@ -83,10 +85,13 @@ def record(kind, payload):
 def floating(text):
     """The two words of a normalized floating-point number."""
     try:
-        fraction, exponent = math.frexp(float(text))
+        value = float(text)
+        fraction, exponent = math.frexp(value)
         bits = round(fraction * 2**35)
     except (ValueError, OverflowError):
         raise Error(f"no floating-point number: {text}") from None
+    if abs(value) < sys.float_info.min and re.search("[1-9]", text.lower().split("e")[0]):
+        raise Error(f"too small a floating-point number: {text}")
     if bits == 0:
         return [0, 2048]
     if bits == 2**35:
@@ -98,15 +103,15 @@ def floating(text):
 
 
 def instruction(fields, address, labels):
-    parts = {}
+    parts, by_label = {}, False
     for field in fields[1:]:
-        part, value = (field[0], int(field[1])) if re.fullmatch(r"[WMX][0-3]", field) else ("D", field)
+        part, value = (field[0], int(field[1])) if re.fullmatch(r"[WMX][0-3]", field) else ("D", number(field, labels))
         if part in parts:
             raise Error(f"a second {part}: {field}")
         parts[part] = value
-    w, m, x = (parts.get(part, 0) for part in "WMX")
-    d = number(parts.get("D", "0"), labels)
-    if m >= 2 and parts.get("D") in labels:
+        by_label = by_label or field in labels
+    w, m, x, d = (parts.get(part, 0) for part in "WMXD")
+    if m >= 2 and by_label:
         d -= address
     return CODES.index(fields[0]) << 18 | w << 16 | m << 14 | x << 12 | within(d, -2048, 2047, "D") % 4096
 
@@ -229,7 +234,7 @@ class Maker:
 
     def item_raw(self, fields, rest):
         try:
-            given = bytes.fromhex("".join(fields))
+            given = bytes.fromhex(" ".join(fields))
         except ValueError:
             raise Error("raw has bytes of two hexadecimal figures") from None
         self.close_block()
@@ -317,7 +322,7 @@ def answer(arguments, tool, help, make, ending):
     if arguments in (["--help"], ["-h"]):
         print(help.strip())
         return 0
-    if len(arguments) != 2 or arguments[0].startswith("--"):
+    if len(arguments) != 2 or any(argument.startswith("--") for argument in arguments):
         raise Error(f"usage: {tool} LISTING TAPE | {tool} --check LISTING.. | {tool} --help")
     write(*arguments, make)
     return 0
@@ -330,7 +335,7 @@ def main(arguments, tool, help, make, ending):
     except Error as error:
         print(f"{tool}: {error}", file=sys.stderr)
     except OSError as error:
-        print(f"{tool}: {error.filename or arguments[-1]}: {error.strerror}", file=sys.stderr)
+        print(f"{tool}: {arguments[-1] if error.filename is None else error.filename}: {error.strerror}", file=sys.stderr)
     return 2
 
 

@@ -206,11 +206,12 @@ static inline rc4000_result rc4000_run_without_devices(uint32_t *store, size_t c
     return rc4000_run(store, cells, control, lines, budget, devices, &character, 0, &typed, 0);
 }
 
-/* The reset key: word 10 takes IC, and the machine is in the reset state. */
+/* The reset key: word 10 takes IC, and the machine is in the reset state. In
+ * that state nothing changes. */
 rc4000_state rc4000_press_reset(uint32_t *store, size_t cells, rc4000_control control);
 
 /* The start key: in the reset state IC is taken from word 14 and the state is
- * left. */
+ * left. Elsewhere nothing changes. */
 rc4000_state rc4000_press_start(uint32_t *store, size_t cells, rc4000_control control);
 
 /* The autoload key: in the reset state, with four characters or more, the first

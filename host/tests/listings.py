@@ -26,9 +26,12 @@ REFUSED = [
     ("a second W: W2", 2, "block 16\n AL W1 W2 5"),
     ("a second D: 6", 2, "block 16\n AL 5 6"),
     ("no number or label: W4", 2, "block 16\n AL W4"),
+    ("no number or label: w1", 2, "block 16\n AL w1 5"),
     ("no number or label: nowhere", 2, "block 16\n JL nowhere"),
     ("a word is -8388608 to 16777215, not 16777216", 2, "block 16\n word 16777216"),
     ("a word is -8388608 to 16777215, not -8388609", 2, "block 16\n word -8388609"),
+    ("a word is -8388608 to 16777215, not so long a number", 2, "block 16\n word 0x" + 5000 * "f"),
+    ("no number or label: bit999", 2, "block 16\n word bit" + 5000 * "9"),
     ("word has 2 values", 2, "block 16\n word 1 2"),
     ("word has 0 values", 2, "block 16\n word"),
     ("a byte is -2048 to 4095, not 4096", 2, "block 16\n bytes 0 4096"),
@@ -37,6 +40,8 @@ REFUSED = [
     ("no floating-point number: inf", 2, "block 16\n float inf"),
     ("no floating-point number: nan", 2, "block 16\n float nan"),
     ("no floating-point number: x", 2, "block 16\n float x"),
+    ("too small a floating-point number: 1e-400", 2, "block 16\n float 1e-400"),
+    ("too small a floating-point number: -1e-320", 2, "block 16\n float -1e-320"),
     ("a key is 0 to 7, not 8", 1, "block 16 key 8\n word 0"),
     ("a key is 0 to 7, not -1", 2, "block 16\nkey -1\n word 0"),
     ("a key outside a block", 1, "key 3"),
@@ -70,6 +75,7 @@ REFUSED = [
     ("the reset state is with monitor and without enabled", 1, "control monitor enabled reset"),
     ("end has no values", 1, "end here"),
     ("raw has bytes of two hexadecimal figures", 1, "raw 0g"),
+    ("raw has bytes of two hexadecimal figures", 1, "raw 0 0"),
     ("the length of a remark is 0 to 255, not 256", 1, "remark " + 256 * "a"),
     ("the length of a remark is 0 to 255, not 256", 1, "remark " + 128 * "ø"),
     ("the length of a tape is 0 to 65536, not 65550", 1, "block 16\n" + 16385 * "word 0\n"),
@@ -104,7 +110,7 @@ MADE = [
     ("block 16\n word 16777215\n word -1\n word -8388608", block(16, 16777215, 16777215, 8388608)),
     ("block 16 key 7\n bytes 4095 -2048\nkey 0\n bytes 'A 0", block(16, 7 << 24 | 4095 << 12 | 2048, 65 << 12)),
     ("block 16777214\n word bit23", block(16777214, 1)),
-    ("block 16\n float 1\n float 0\n float -0.5", block(16, 4194304, 1, 0, 2048, 8388608, 4095)),
+    ("block 16\n float 1\n float 0\n float -0.5\n float -0e9", block(16, 4194304, 1, 0, 2048, 8388608, 4095, 0, 2048)),
     ("block 16\n float 0.99999999999999999\n float 0.999999999999", block(16, 4194304, 1, 4194304, 1)),
     ("block 16\n float -0.5000000000001", block(16, 8388608, 4095)),
     ("remark " + 255 * "a", record(4, 255 * b"a")),
@@ -161,6 +167,7 @@ class Listings(unittest.TestCase):
 
     def test_files_that_cannot_be_read_or_written(self):
         self.refused(self.run_tool(self.listing, self.tape), f"{self.listing}: No such file")
+        self.refused(self.run_tool("", self.tape), ".py: : No such file")
         self.refused(self.run_tool(self.room.name, self.tape), f"{self.room.name}: Is a directory")
         self.listing.write_text("end\n")
         self.refused(self.run_tool(self.listing, self.room.name), f"{self.room.name}: Is a directory")
@@ -172,7 +179,7 @@ class Listings(unittest.TestCase):
 
     def test_usage(self):
         for tool in "tape.py", "reader.py":
-            for arguments in [], ["one"], ["one", "two", "three"], ["--check"], ["--chekc", "one"]:
+            for arguments in [], ["one"], ["one", "two", "three"], ["--check"], ["--chekc", "one"], ["one", "--check"]:
                 self.refused(self.run_tool(*arguments, tool=tool), f"usage: {tool} LISTING TAPE")
             self.refused(subprocess.run([sys.executable, TOOLS / tool], capture_output=True, text=True), f"usage: {tool} LISTING TAPE")
             done = subprocess.run([sys.executable, TOOLS / tool, "--help"], capture_output=True, text=True)

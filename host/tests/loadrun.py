@@ -110,6 +110,10 @@ class Loadrun(unittest.TestCase):
         os.utime(self.source, (time.time() + 9, time.time() + 9))
         self.ended(self.run_script(self.tape), 0, "spent 100 0 18\n", "[ 1 of ")
 
+    def test_it_proves_where_standard_error_is_closed(self):
+        self.ended(self.run_in_shell(f"{self.tape} 2>&-"), 0, "spent 100 0 18\n")
+        self.assertEqual((self.room / "asked").read_text(), "check loadrun\n")
+
     def test_what_is_not_proved_is_shown(self):
         (self.room / "refuse").touch()
         done = self.run_script(self.tape)
@@ -159,13 +163,15 @@ class Loadrun(unittest.TestCase):
         self.tape.chmod(0)
         other = {"user": 65534, "group": 65534, "extra_groups": []} if os.geteuid() == 0 else {}
         self.ended(self.run_script(self.tape, **other), 2, "", f"loadrun: {self.tape}: no permission")
+        self.ended(self.run_in_shell(f"{self.room}/absent 2>&-"), 2, "")
         self.assertFalse((self.room / "asked").exists())
         self.build()
         self.ended(self.run_in_shell(f"<{self.room}"), 2, "", "no tape can be read")
         self.ended(self.run_in_shell("<&-"), 2, "", "standard input is closed")
 
     def test_usage(self):
-        self.ended(self.run_script(self.tape, self.tape), 2, "", "usage: ./loadrun [FILE]")
+        for first in self.tape, "--help":
+            self.ended(self.run_script(first, self.tape), 2, "", "one tape at most", "usage: ./loadrun [FILE]")
         done = self.run_script("--help")
         self.ended(done, 0, done.stdout)
         self.assertIn("usage: ./loadrun [FILE]\n", done.stdout)

@@ -17,7 +17,7 @@ pub struct ControlRecord {
 }
 
 #[repr(C)]
-pub struct RunResult {
+pub struct CallResult {
     pub control: ControlRecord,
     pub outcome: u32,
     pub number: u32,
@@ -62,7 +62,7 @@ extern "C" {
         count: usize,
         typing: *mut u8,
         space: usize,
-    ) -> RunResult;
+    ) -> CallResult;
     pub fn rc4000_press_reset(store: *mut u32, cells: usize, control: ControlRecord) -> State;
     pub fn rc4000_press_start(store: *mut u32, cells: usize, control: ControlRecord) -> State;
     pub fn rc4000_press_autoload(
@@ -91,11 +91,11 @@ const _: () = {
     assert!(offset_of!(ControlRecord, reset) == 26);
     assert!(size_of::<Devices>() == 8);
     assert!(offset_of!(Devices, typewriter) == 4);
-    assert!(size_of::<RunResult>() == 72);
-    assert!(offset_of!(RunResult, outcome) == 28);
-    assert!(offset_of!(RunResult, devices) == 44);
-    assert!(offset_of!(RunResult, taken) == 56);
-    assert!(offset_of!(RunResult, typed) == 64);
+    assert!(size_of::<CallResult>() == 72);
+    assert!(offset_of!(CallResult, outcome) == 28);
+    assert!(offset_of!(CallResult, devices) == 44);
+    assert!(offset_of!(CallResult, taken) == 56);
+    assert!(offset_of!(CallResult, typed) == 64);
     assert!(size_of::<State>() == 32);
     assert!(offset_of!(State, refusal) == 28);
     assert!(size_of::<Autoloaded>() == 48);
@@ -148,7 +148,7 @@ fn flag(byte: u8) -> bool {
     }
 }
 
-impl RunResult {
+impl CallResult {
     /// Control record and device buffer registers go to the caller's.
     pub fn hand_back(
         self,
