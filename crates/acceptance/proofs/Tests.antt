@@ -26,6 +26,6 @@ passed true v r e = (refl, e)
 passed false v r e = refused e
 
 -- a call that passes 13 has passed the tests before it
-pub accepted-both : (v : Verdict) (f : Bool) → judgeDevices v f ≡ Accepted → (v ≡ Accepted) × (f ≡ true)
-accepted-both Accepted f e = (refl, passed f Accepted Device e .0)
-accepted-both (Rejected q) f e = refused e
+pub passed-devices : (v : Verdict) (f : Bool) → judgeDevices v f ≡ Accepted → (v ≡ Accepted) × (f ≡ true)
+passed-devices Accepted f e = (refl, passed f Accepted Device e .0)
+passed-devices (Rejected q) f e = refused e

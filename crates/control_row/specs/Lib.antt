@@ -1,2 +1,2 @@
 pub mod Row
-pub mod Answers
+pub mod Endings

@@ -16,7 +16,7 @@ use Rattle.definition_instructions.specs.Machine.{Computer, computer, Channel, 
 use Rattle.definition_runs.specs.GenericRun.{CycleResult, instruction, entry}
 use Rattle.definition_runs.specs.Cycle.{lineOf, enter, address, executeInstruction, decode, fetch, concluded, cycle}
 use Rattle.control_row.specs.Row.{withMonitor}
-use Rattle.control_row.specs.Answers.{Ending, completed, faulted, ending}
+use Rattle.control_row.specs.Endings.{Ending, completed, faulted, ending}
 use Rattle.fetch.specs.Fetch.{Fetched, fetchAbsent, violates, fetchMode}
 use Rattle.cycle.proofs.Fields.{fetch-fields}
 

@@ -8,7 +8,7 @@ ghost use Rattle.definition_instructions.specs.Machine.{machine};
 ghost use Rattle.channel_row.specs.Row.{channelAt, IsChannel};
 ghost use Rattle.definition_runs.specs.Cycle.{executeInstruction, decode, fetch, cycle};
 ghost use Rattle.control_row.specs.Row.{controlAt, IsRow};
-ghost use Rattle.control_row.specs.Answers.{ending, endingOf, endingWith};
+ghost use Rattle.control_row.specs.Endings.{ending, endingOf, endingWith};
 ghost use Rattle.fetch.specs.Fetch.{Fetched};
 ghost use Rattle.cycle.specs.Steps.{cycleOf};
 use channel_row::Channel;

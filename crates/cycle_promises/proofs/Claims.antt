@@ -21,7 +21,7 @@ use Rattle.machine.specs.Records.{resetRecord, returnAddress}
 use Rattle.machine.specs.Answers.{verdictNumber}
 use Rattle.machine.proofs.StoreLaws.{length-putWord, word-other, word-same, key-putWord, length-putKey, word-putKey, key-other, key-same}
 use Rattle.acceptance.specs.Accept.{sizeFits, cellsFit, controlFits, judgeMachine, judgeDevices, judgeAutoload}
-use Rattle.acceptance.proofs.Tests.{both, accepted-both}
+use Rattle.acceptance.proofs.Tests.{both, passed-devices}
 use Rattle.integer.specs.Bitwise.{logicalOr}
 use Rattle.integer.proofs.Digits.{or-is}
 use Rattle.definition_instructions.specs.Machine.{Computer, computer, Channel, Machine, machine, computerOf, reached, resetSystem}
@@ -285,7 +285,7 @@ autoload-key m e =
     let cs = m .channel .characters in
     let four : Bool → Machine = λ b. cond b (autoloaded cs m) m in
     let by : Bool → Machine = λ b. cond b (four (fourLeft cs)) m in
-    let fits = accepted-both (judgeOf m) (devicesFitOf m) e in (
+    let fits = passed-devices (judgeOf m) (devicesFitOf m) e in (
       λ i l. subst (AutoloadPressed m) (sym (pressed ∙ ap by i ∙ ap four (le-leb 4 (length cs) l)))
           (autoload-pressed cs m (accepted-valid (computerOf m) (fits .0)) (fits-channel (m .channel) (fits .1) .characters) l),
       λ o. pressed ∙ ap by o,

@@ -1,11 +1,11 @@
 -- What the instructions that reach devices keep: they do nothing in task mode, they leave a machine that the tests accept, and the channel only goes
 -- on: characters are taken from the front, bytes are typed behind those typed before, the rest of the typing space stays.
 -- Assumes nothing.
-use Prim.Native.Nat.{ℕ, zero, suc, _/_, _%_, _<_}
+use Prim.Native.Nat.{ℕ, zero, suc, _<_}
 use native.Mathlib.Omega.{arith}
 use mathlib.Core.Path.{_≡_, refl, sym, subst}
 use mathlib.Core.Bool.{Bool, true, false, not, cond}
-use mathlib.Core.List.{List, [], _∷_, _++_}
+use mathlib.Core.List.{List, [], _∷_}
 use lib.Dec.{eqb, ltb}
 use lib.ListN.{getD}
 use borrow.Author.Tests.{lt-ltb, ltb-true}
@@ -15,7 +15,7 @@ use Rattle.machine.specs.declared.Fault.the-variants.{Privileged}
 use Rattle.machine.proofs.StoreLaws.{word-lt}
 use Rattle.acceptance.specs.Accept.{charactersFit, devicesFit}
 use Rattle.acceptance.proofs.Tests.{both}
-use Rattle.definition_instructions.specs.Machine.{Computer, Channel, Machine, machine, computerOf, connected, Effect, ok, fault, bind, reached, lifted}
+use Rattle.definition_instructions.specs.Machine.{Computer, Channel, Machine, computerOf, connected, Effect, ok, fault, reached, lifted}
 use Rattle.definition_instructions.specs.Channel.{deviceBuffer, taking, readFrom, typingOn, writeTo}
 use Rattle.definition_instructions.specs.MicroOps.{DeviceOp, monitor, senseDevice, controlDevice, readDevice, writeDevice, DeviceOperation, peripheral, resetting, monitorStep, deviceStep, deviceSteps, executeDeviceOperation}
 use Rattle.definition_instructions.proofs.MicroLaws.{reach-cond, reach-bind}
@@ -71,7 +71,7 @@ pub channel-fits : (h : Channel) → ValidChannel h → devicesFit (h .reader) (
 unfolding devicesFit
 channel-fits h v = rw (lt-ltb _ _ (v .reader), lt-ltb _ _ (v .typewriter), below-characters (h .characters) (v .characters))
 
-by-cond : {M : Type 0} (P : M → Type 0) (b : Bool) (x y : M) → P x → P y → P (cond b x y)
+pub by-cond : {M : Type 0} (P : M → Type 0) (b : Bool) (x y : M) → P x → P y → P (cond b x y)
 by-cond P true x y p q = p
 by-cond P false x y p q = q
 

@@ -3,15 +3,13 @@
 use Prim.Native.Nat.{ℕ, zero, suc, _/_, _≤_, _<_}
 use native.Mathlib.Omega.{arith}
 use mathlib.Core.Path.{_≡_, refl, ap, _∙_}
-use mathlib.Core.Bool.{Bool, true, false, not, cond, false≢true}
+use mathlib.Core.Bool.{Bool, true, false, not, cond}
 use mathlib.Core.List.{List, [], _∷_}
 use lib.Dec.{ltb}
 use lib.ListN.{length}
 use borrow.Author.Tests.{lt-ltb, le-ltb, le-leb, ltb-true, ltb-false, leb-true}
 use Rattle.machine.specs.declared.Control.{Control}
-use Rattle.machine.specs.declared.Refusal.{Refusal}
-use Rattle.machine.specs.declared.Verdict.{Verdict}
-use Rattle.machine.specs.declared.Verdict.the-variants.{Accepted, Rejected}
+use Rattle.machine.specs.declared.Verdict.the-variants.{Accepted}
 use Rattle.machine.specs.Store.{putWord, putKey}
 use Rattle.machine.specs.Fields.{inTask, withIC, withIR, withIM, withPending, withPR, withEX, withEnabled}
 use Rattle.machine.specs.Records.{resetRecord}
@@ -176,6 +174,10 @@ live-steps : (w : ℕ) (ds : List MonitorOp) (n : Computer) → w < 4 → Live n
 unfolding monitorSteps
 live-steps w [] n l h = h
 live-steps w (d ∷ ds) n l h = reach-bind Live (monitorStep w d n) (monitorSteps w ds) (live-step w d n l h) (λ k p. live-steps w ds k l p)
+
+pub in-reset : (c : Control) → resetRecord c .reset ≡ true
+unfolding resetRecord
+in-reset c = refl
 
 pub valid-reset : (n : Computer) → Valid n → Valid (resetSystem (n .cells) (n .control))
 unfolding resetSystem resetRecord stateFits

@@ -1,6 +1,6 @@
 -- What instructions read, and micro-operations that several share. `w` is the instruction's register, `sb` its effective address.
 -- Assumes nothing.
-use Prim.Native.Nat.{ℕ, _*_, _/_}
+use Prim.Native.Nat.{ℕ, _/_}
 use mathlib.Core.List.{List, [], _∷_}
 use Rattle.machine.specs.Store.{word, byte, putWord, firstWord, previous}
 use Rattle.registers.specs.Reg.{wordRange}

@@ -4,13 +4,10 @@ use Prim.Native.Nat.{ℕ, _<_}
 use native.Mathlib.Omega.{arith}
 use mathlib.Core.Path.{_≡_, refl}
 use mathlib.Core.Bool.{Bool, true, false, not, cond}
-use Rattle.machine.specs.declared.Refusal.the-variants.{Device}
-use Rattle.machine.specs.declared.Verdict.{Verdict}
-use Rattle.machine.specs.declared.Verdict.the-variants.{Accepted, Rejected}
 use Rattle.machine.specs.declared.Control.{Control}
 use Rattle.machine.specs.Fields.{withIC, withIR, raised}
 use Rattle.machine.proofs.StoreLaws.{word-lt}
-use Rattle.acceptance.specs.Accept.{stateFits, judgeDevices}
+use Rattle.acceptance.specs.Accept.{stateFits}
 use Rattle.integer.specs.Sums.{sum24}
 use Rattle.definition_instructions.specs.Machine.{Computer, computer, Channel, Machine, machine, computerOf, reached}
 use Rattle.definition_instructions.specs.Channel.{readFrom, writeTo, fourLeft}

@@ -7,8 +7,9 @@ use lib.ListN.{length}
 use Rattle.machine.specs.declared.Control.{Control}
 use Rattle.machine.specs.declared.Devices.{Devices}
 use Rattle.machine.specs.declared.Run.{Run}
+use Rattle.machine.specs.declared.State.{State}
 use Rattle.machine.specs.declared.Autoloaded.{Autoloaded}
-use Rattle.definition_instructions.specs.Machine.{Channel, Machine, machine}
+use Rattle.definition_instructions.specs.Machine.{Computer, computer, Channel, Machine, machine}
 use Rattle.definition_instructions.specs.Channel.{lent, registersOf}
 use Rattle.definition_runs.specs.GenericRun.{RunResult}
 use Rattle.definition_runs.specs.Run.{runMachine}
@@ -58,9 +59,17 @@ handedBack cs x =
 unfoldable pub runLent : ℕ → ℕ → List ℕ → Control → Devices → List ℕ → List ℕ → Returned
 runLent l b s c d cs t = handedBack cs (runMachine l b (machineLent s c d cs t))
 
--- ---- the autoload key
+-- the answer and the counts of a run that hands back r and the store s
+abbrev pub runResultOf : Run → List ℕ → RunResult Computer
+runResultOf r s = record { machine = computer s (r .control); answer = r .answer; executed = r .executed; entries = r .entries }
 
--- what it hands back, with the store
+-- ---- the panel keys
+
+-- what the reset key or the start key hands back, with the store
+abbrev pub pressedOf : State → List ℕ → Pressed Computer
+pressedOf r s = record { machine = computer s (r .control); verdict = r .verdict }
+
+-- what the autoload key hands back, with the store
 pub record KeyReturned : Type 0 where
   pub key : Autoloaded
   pub cells : List ℕ

@@ -3,7 +3,6 @@ pub mod Cycle
 pub mod Run
 pub mod Keys
 pub mod Lent
-pub mod Answers
 pub mod Opened
 pub mod Table
 pub mod Peripherals

@@ -10,7 +10,7 @@ use Rattle.machine.specs.declared.Control.{Control}
 use Rattle.machine.specs.declared.Fault.the-variants.{Privileged}
 use Rattle.machine.specs.Store.{putWord, putKey, absent}
 use Rattle.machine.specs.Fields.{inTask, flagsCleared}
-use Rattle.control_row.specs.Answers.{completed, faulted, ending}
+use Rattle.control_row.specs.Endings.{completed, faulted, ending}
 use Rattle.definition_instructions.specs.Machine.{Channel, Machine, machine, fault}
 use Rattle.definition_instructions.specs.Channel.{readFrom, fourLeft, shiftedIn, assembled}
 use Rattle.definition_instructions.specs.MicroOps.{microStep, monitorStep, deviceStep, deviceSteps}

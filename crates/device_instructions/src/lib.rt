@@ -4,7 +4,7 @@ ghost use mathlib.Core.Bool.{true};
 ghost use Prim.Native.Nat.{_/_, _<_};
 ghost use Rattle.registers.specs.Reg.{wordRange};
 ghost use Rattle.control_row.specs.Row.{controlAt, IsRow};
-ghost use Rattle.control_row.specs.Answers.{ending, endingOf, endingWith};
+ghost use Rattle.control_row.specs.Endings.{ending, endingOf, endingWith};
 ghost use Rattle.machine.specs.Fields.{flagsCleared};
 ghost use Rattle.machine.specs.Store.{putWord, putKey};
 ghost use Rattle.definition_instructions.specs.Machine.{machine};

@@ -7,7 +7,7 @@ use Rattle.machine.specs.declared.Control.{Control}
 use Rattle.definition_instructions.specs.Machine.{Computer, Channel, Effect, ok, fault, lifted}
 use Rattle.definition_instructions.specs.Meaning.{Op}
 use Rattle.definition_instructions.specs.Codes.{execute}
-use Rattle.control_row.specs.Answers.{Ending, ending, endingWith}
+use Rattle.control_row.specs.Endings.{Ending, ending, endingWith}
 
 ending-lifted : (h : Channel) (e : Effect Computer) → endingWith h (ending e) ≡ ending (lifted h e)
 ending-lifted h (ok k) = refl

@@ -12,7 +12,7 @@ use Rattle.definition_instructions.specs.Machine.{Channel, machine}
 use Rattle.definition_instructions.specs.MicroOps.{executeOperation}
 use Rattle.definition_instructions.specs.Meaning.{None, meaning}
 use Rattle.definition_instructions.specs.Codes.{internal, Code, codes, lookup, execute, executeCode}
-use Rattle.control_row.specs.Answers.{faulted, ending}
+use Rattle.control_row.specs.Endings.{faulted, ending}
 
 -- x is none of a, .., a + k - 1: what the last arm of a match is told
 abbrev pub NoneFrom : ℕ → ℕ → ℕ → Type 0

@@ -4,7 +4,7 @@ ghost use mathlib.Core.Path.{_≡_};
 ghost use Prim.Native.Nat.{_<_, _≤_};
 ghost use Rattle.registers.specs.Reg.{wordRange};
 ghost use Rattle.control_row.specs.Row.{controlAt, IsRow};
-ghost use Rattle.control_row.specs.Answers.{ending, endingOf, endingWith};
+ghost use Rattle.control_row.specs.Endings.{ending, endingOf, endingWith};
 ghost use Rattle.definition_instructions.specs.Machine.{Channel, machine};
 ghost use Rattle.channel_row.specs.Row.{channelAt, IsChannel};
 ghost use Rattle.definition_instructions.specs.Codes.{executeCode};

@@ -3,7 +3,7 @@ ghost use mathlib.Core.Path.{_≡_};
 ghost use Prim.Native.Nat.{_<_};
 ghost use Rattle.registers.specs.Reg.{wordRange};
 ghost use Rattle.control_row.specs.Row.{controlAt, IsRow};
-ghost use Rattle.control_row.specs.Answers.{ending, endingOf};
+ghost use Rattle.control_row.specs.Endings.{ending, endingOf};
 ghost use Rattle.definition_instructions.specs.Codes.{execute};
 ghost use Rattle.definition_instructions.specs.Meaning.{CI, CF, FA, FS, FM, FD};
 use control_row::End;

@@ -5,7 +5,7 @@ ghost use Rattle.registers.specs.Reg.{wordRange};
 ghost use Rattle.machine.specs.Fields.{overflowed, carrySet};
 ghost use Rattle.definition_instructions.specs.Operands.{integerOverflow};
 ghost use Rattle.control_row.specs.Row.{controlAt, IsRow};
-ghost use Rattle.control_row.specs.Answers.{ending, endingOf};
+ghost use Rattle.control_row.specs.Endings.{ending, endingOf};
 ghost use Rattle.definition_instructions.specs.Codes.{execute};
 ghost use Rattle.definition_instructions.specs.Meaning.{AC, BA, BS, WA, WS, WM, WD, AA, SS, LA, LO, LX, AS, AD, LS, LD, NS, ND};
 use control_row::End;

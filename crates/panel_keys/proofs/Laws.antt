@@ -11,18 +11,17 @@ use Rattle.machine.specs.declared.Control.{Control}
 use Rattle.machine.specs.declared.Devices.{Devices}
 use Rattle.machine.specs.declared.Refusal.{Refusal}
 use Rattle.machine.specs.declared.Verdict.the-variants.{Accepted, Rejected}
-use Rattle.machine.specs.Records.{resetRecord}
 use Rattle.acceptance.specs.Accept.{stateFits, judgeMachine, devicesFit, judgeAutoload}
-use Rattle.acceptance.proofs.Tests.{accepted-both}
+use Rattle.acceptance.proofs.Tests.{passed-devices}
 use Rattle.definition_instructions.specs.Machine.{computer, Channel, Machine, machine, Effect, ok, fault, reached}
 use Rattle.definition_instructions.specs.Channel.{lent, registersOf, fourLeft}
 use Rattle.definition_instructions.specs.MicroOps.{deviceSteps}
 use Rattle.definition_instructions.specs.Meaning.{autoloading}
-use Rattle.definition_instructions.proofs.Validity.{accepted-valid, Live, valid-control}
+use Rattle.definition_instructions.proofs.Validity.{in-reset, accepted-valid, Live, valid-control}
 use Rattle.definition_instructions.proofs.DeviceLaws.{fits-channel, live-devices}
 use Rattle.control_row.specs.declared.End.{End}
 use Rattle.control_row.specs.declared.End.the-variants.{Done, Reset, Faulted}
-use Rattle.control_row.specs.Answers.{Ending, completed, faulted, ending, endingOf, endingWith}
+use Rattle.control_row.specs.Endings.{Ending, completed, faulted, ending, endingOf, endingWith}
 use Rattle.definition_runs.specs.Keys.{autoloadRecord, autoloadKey, pressingAutoload}
 use Rattle.definition_runs.specs.Lent.{machineLent, KeyReturned, keyReturned, keyHandedBack, autoloadLent}
 use Rattle.panel_keys.specs.Key.{autoloaded}
@@ -36,7 +35,7 @@ pub fits-a-key : (s : List ℕ) (c : Control) (d : Devices) (cs : List ℕ) → 
     → (judgeMachine s c ≡ Accepted) × (d .reader < 16777216) × (d .typewriter < 16777216)
 unfolding judgeAutoload
 fits-a-key s c d cs e =
-    let all = accepted-both (judgeMachine s c) (devicesFit (d .reader) (d .typewriter) cs) (sym e) in
+    let all = passed-devices (judgeMachine s c) (devicesFit (d .reader) (d .typewriter) cs) (sym e) in
     let small = registers-fit d cs (all .1) in
     (all .0, small .0, small .1)
 
@@ -58,10 +57,6 @@ endMachine (faulted m) = m
 end-reached : (x : Effect Machine) → endMachine (ending x) ≡ reached x
 end-reached (ok m) = refl
 end-reached (fault f m) = refl
-
-in-reset : (c : Control) → resetRecord c .reset ≡ true
-unfolding resetRecord
-in-reset c = refl
 
 -- an end outside the reset state leaves cells and row as they stand
 end-machine : (r : End) (s : List ℕ) (c : Control) (h : Channel) (x : Effect Machine) → endingWith h (endingOf r s c) ≡ ending x → reached x .control .reset ≡ false

@@ -18,14 +18,13 @@ use Rattle.machine.specs.declared.Verdict.{Verdict}
 use Rattle.machine.specs.declared.Verdict.the-variants.{Accepted, Rejected}
 use Rattle.machine.specs.Fields.{withIR, raised}
 use Rattle.acceptance.specs.Accept.{judgeMachine, judgeCall, devicesFit, judgeRun}
-use Rattle.acceptance.proofs.Tests.{passed, accepted-both}
+use Rattle.acceptance.proofs.Tests.{passed, passed-devices}
 use Rattle.definition_instructions.specs.Machine.{computer}
 use Rattle.definition_instructions.specs.Channel.{registersOf}
 use Rattle.definition_instructions.proofs.Validity.{accepted-valid, valid-accepted}
 use Rattle.definition_runs.specs.Cycle.{cycle}
 use Rattle.definition_runs.specs.Run.{inReset, judgeOf, devicesFitOf, joined, running, runMachine}
-use Rattle.definition_runs.specs.Lent.{machineLent, Returned, returned, handedBack, runLent}
-use Rattle.definition_runs.specs.Answers.{runResultOf}
+use Rattle.definition_runs.specs.Lent.{runResultOf, machineLent, Returned, returned, handedBack, runLent}
 use Rattle.run_promises.specs.Promises.{KeepsProtected, TouchesNoDevice, Counts}
 use Rattle.definition_runs.proofs.CycleValid.{valid-joined}
 use Rattle.run_promises.proofs.CallLaws.{call-run}
@@ -45,7 +44,7 @@ Fits s c b d = (judgeMachine s c ≡ Accepted) × (b < 65536) × (d .reader < 16
 pub fits-unraised : (s : List ℕ) (c : Control) (l b : ℕ) (d : Devices) (cs : List ℕ) → Accepted ≡ judgeRun s c l b (d .reader) (d .typewriter) cs → Fits s c b d
 unfolding judgeRun
 fits-unraised s c l b d cs e =
-    let all = accepted-both (judgeCall (judgeMachine s c) l b) (devicesFit (d .reader) (d .typewriter) cs) (sym e) in
+    let all = passed-devices (judgeCall (judgeMachine s c) l b) (devicesFit (d .reader) (d .typewriter) cs) (sym e) in
     let call = call-passed (judgeMachine s c) l b (all .0) in
     let small = registers-fit d cs (all .1) in (call .0, call .1, small .0, small .1)
 

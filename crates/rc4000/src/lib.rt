@@ -2,8 +2,7 @@
 ghost use mathlib.Core.Path.{_≡_};
 ghost use denote.Ref.{ptr};
 ghost use Rattle.definition_instructions.specs.Machine.{computer};
-ghost use Rattle.definition_runs.specs.Answers.{runResultOf, pressedOf};
-ghost use Rattle.definition_runs.specs.Lent.{returned, runLent, keyReturned, autoloadLent};
+ghost use Rattle.definition_runs.specs.Lent.{runResultOf, pressedOf, returned, runLent, keyReturned, autoloadLent};
 ghost use Rattle.definition_runs.specs.Keys.{pressingReset, pressingStart};
 ghost use Rattle.run_promises.specs.Promises.{KeepsProtected, TouchesNoDevice, Counts};
 ghost use Rattle.tape.specs.Load.{loading};

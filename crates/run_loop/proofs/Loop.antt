@@ -12,6 +12,7 @@ use Rattle.machine.specs.declared.Outcome.the-variants.{Reset, Spent}
 use Rattle.machine.specs.Records.{resetRecord}
 use Rattle.definition_instructions.specs.Machine.{Channel, Machine, machine}
 use Rattle.definition_instructions.specs.Channel.{registersOf}
+use Rattle.definition_instructions.proofs.Validity.{in-reset}
 use Rattle.definition_instructions.proofs.DeviceLaws.{ValidComputer}
 use Rattle.definition_runs.specs.GenericRun.{RunResult, ended, after, run}
 use Rattle.definition_runs.specs.Cycle.{cycle}
@@ -65,10 +66,6 @@ unfolding goesOn
 valid-goes m cycleEnd.Executed s c h e v t g = subst (Meets ValidComputer (λ k. ValidComputer)) (sym t) (cycle-valid m e v)
 valid-goes m cycleEnd.Reset s c h e v t g = absurd (false≢true g)
 valid-goes m (cycleEnd.Entered x) s c h e v t g = absurd (false≢true g)
-
-in-reset : (c : Control) → resetRecord c .reset ≡ true
-unfolding resetRecord
-in-reset c = refl
 
 pub run-stops : (b k : ℕ) (m : Machine) (e : CycleEnd) (s : List ℕ) (c : Control) (h : Channel) → 0 < k → inReset m ≡ false → cycleOf e s c h ≡ cycle m → goesOn e ≡ false
     → runEndOf (stopped e (b - k)) s c h ≡ following (b - k) (running k m)

@@ -18,6 +18,7 @@ use Rattle.definition_instructions.specs.Channel.{disconnected, deviceBuffer, t
 use Rattle.definition_instructions.specs.MicroOps.{DeviceOp, monitor, senseDevice, controlDevice, readDevice, writeDevice, DeviceOperation, peripheral, resetting, monitorStep, deviceStep, deviceSteps, executeDeviceOperation}
 use Rattle.definition_instructions.specs.Meaning.{Peripheral, IO, AW, deviceMeaning}
 use Rattle.definition_instructions.specs.Codes.{Mnemonic, internal, device, codes, lookup, execute, executeDevice, executeMnemonic, executeCode}
+use Rattle.definition_instructions.proofs.DeviceLaws.{by-cond}
 use Rattle.definition_runs.specs.GenericRun.{CycleResult, entry}
 use Rattle.definition_runs.specs.Cycle.{lineOf, indirectAbsent, effectiveAddress, executeInstruction, decode, fetch, concluded, cycle}
 use Rattle.run_promises.specs.Promises.{GoesOn}
@@ -29,10 +30,6 @@ use Rattle.definition_runs.proofs.CycleLaws.{entered, lined}
 pub goes-on-refl : (h : Channel) → GoesOn h h
 goes-on-refl h =
     record { taken = []; characters = refl; written = []; typed = sym (append-nil (h .typed)); used = []; space = refl; asMany = refl }
-
-by-cond : (P : Channel → Type 0) (b : Bool) (x y : Channel) → P x → P y → P (cond b x y)
-by-cond P true x y p q = p
-by-cond P false x y p q = q
 
 on-taking : (g h : Channel) (cs : List ℕ) → h .characters ≡ cs → GoesOn g h → GoesOn g (taking cs h)
 on-taking g h [] e on = on

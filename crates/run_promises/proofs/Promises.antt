@@ -24,7 +24,7 @@ use Rattle.machine.specs.Store.{word}
 use Rattle.machine.specs.Answers.{kindNumber, verdictNumber}
 use Rattle.machine.specs.Fields.{withIR, raised}
 use Rattle.acceptance.specs.Accept.{sizeFits, cellsFit, controlFits, judgeMachine, judgeCall, judgeDevices, judgeRun, judgeAutoload}
-use Rattle.acceptance.proofs.Tests.{passed, accepted-both}
+use Rattle.acceptance.proofs.Tests.{passed-devices}
 use Rattle.definition_instructions.specs.Machine.{Computer, Machine, computerOf, Effect, reached}
 use Rattle.definition_instructions.specs.Channel.{registersOf}
 use Rattle.definition_instructions.specs.Codes.{Mnemonic, internal, device, Code, codes, lookup, execute, executeDevice, executeMnemonic, executeCode}
@@ -70,11 +70,11 @@ accepted-call : (v : Verdict) (l b : ℕ) → judgeCall v l b ≡ Accepted → v
 accepted-call Accepted l b e = refl
 accepted-call (Rejected q) l b e = e
 
-both-accepted : (v : Verdict) (f : Bool) → v ≡ Accepted → f ≡ true → judgeDevices v f ≡ Accepted
-both-accepted v f e g = rw (e, g)
+devices-accepted : (v : Verdict) (f : Bool) → v ≡ Accepted → f ≡ true → judgeDevices v f ≡ Accepted
+devices-accepted v f e g = rw (e, g)
 
 accepted-run : (l b : ℕ) (m : Machine) → judged judgeOf devicesFitOf l b m ≡ Accepted → (judgeOf m ≡ Accepted) × (devicesFitOf m ≡ true)
-accepted-run l b m e = let p = accepted-both (judgeCall (judgeOf m) l b) (devicesFitOf m) e in (accepted-call (judgeOf m) l b (p .0), p .1)
+accepted-run l b m e = let p = passed-devices (judgeCall (judgeOf m) l b) (devicesFitOf m) e in (accepted-call (judgeOf m) l b (p .0), p .1)
 
 valid-run : (l n : ℕ) (m : Machine) → judgeOf m ≡ Accepted → judgeOf (run inReset cycle n (joined l m) .machine) ≡ Accepted
 valid-run l n m e = valid-accepted _ (run-valid n (joined l m) (valid-joined l (computerOf m) (accepted-valid (computerOf m) e)))
@@ -91,9 +91,9 @@ unfolding runMachine judgeAutoload
 stays-accepted l b m =
     let all = call-cases inReset cycle judgeOf devicesFitOf joined in (
       λ e. all (λ r. judgeOf (r .machine) ≡ Accepted) l b m (λ q f. e) (λ f. valid-run l b m e),
-      λ e. let p = accepted-both (judgeOf m) (devicesFitOf m) e in
+      λ e. let p = passed-devices (judgeOf m) (devicesFitOf m) e in
           all (λ r. judgeDevices (judgeOf (r .machine)) (devicesFitOf (r .machine)) ≡ Accepted) l b m (λ q f. e)
-          (λ f. both-accepted _ _ (valid-run l b m (p .0)) (fits-run l b m (p .1))),
+          (λ f. devices-accepted _ _ (valid-run l b m (p .0)) (fits-run l b m (p .1))),
     )
 
 pressed-accepted : {M : Type 0} (judge : M → Verdict) (v : Verdict) (m n : M) → v ≡ Accepted → judge n ≡ Accepted → judge (pressedBy v m n .machine) ≡ Accepted
@@ -111,9 +111,9 @@ keys-stay-accepted m e =
 pub autoload-stays-accepted : AutoloadStaysAccepted
 unfolding pressingAutoload judgeAutoload
 autoload-stays-accepted m e =
-    let p = accepted-both (judgeOf m) (devicesFitOf m) e in
+    let p = passed-devices (judgeOf m) (devicesFitOf m) e in
     pressed-accepted (λ k. judgeDevices (judgeOf k) (devicesFitOf k)) (judgeDevices (judgeOf m) (devicesFitOf m)) m (autoloadKey m) e
-    (both-accepted _ _ (valid-accepted _ (valid-autoloadKey m (accepted-valid (computerOf m) (p .0)))) (channel-fits _ (channel-autoloadKey m (fits-channel (m .channel) (p .1)))))
+    (devices-accepted _ _ (valid-accepted _ (valid-autoloadKey m (accepted-valid (computerOf m) (p .0)))) (channel-fits _ (channel-autoloadKey m (fits-channel (m .channel) (p .1)))))
 
 -- ---- refusals
 

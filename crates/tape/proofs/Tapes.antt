@@ -28,13 +28,13 @@ pub tape-judged : (n : ℕ) (t : List ℕ) → judgeTape n t ≡ Accepted → (l
 unfolding judgeTape
 tape-judged n t e = let a = passed _ _ _ e in (leb-true (length t) 65536 (a .0), judged n false t (a .1))
 
-pub both-accepted : (v w : Verdict) → judgeThen v w ≡ Accepted → (v ≡ Accepted) × (w ≡ Accepted)
-both-accepted (Rejected r) w e = refused e
-both-accepted Accepted w e = (refl, e)
+pub passed-then : (v w : Verdict) → judgeThen v w ≡ Accepted → (v ≡ Accepted) × (w ≡ Accepted)
+passed-then (Rejected r) w e = refused e
+passed-then Accepted w e = (refl, e)
 
 pub load-judged : (t s : List ℕ) → judgeLoad t s ≡ Accepted → Judged (length s) false t
 unfolding judgeLoad
-load-judged t s e = tape-judged (length s) t (both-accepted (judgeStore s) _ e .1) .1
+load-judged t s e = tape-judged (length s) t (passed-then (judgeStore s) _ e .1) .1
 
 pub reading-judged : (t : List ℕ) (n : ℕ) → judgeReading t n ≡ Accepted → Judged n false t
 unfolding judgeReading

@@ -16,7 +16,7 @@ use Rattle.tape.specs.Judge.{judgeTape}
 use Rattle.tape.specs.Load.{loadRecords, loadedControl, judgeThen, judgeLoad, loadedBy, loading}
 use Rattle.tape.specs.Remark.{judgeReading, remarkSpan, remarkText}
 use Rattle.tape.proofs.Judged.{judged-back}
-use Rattle.tape.proofs.Tapes.{tape-judged, both-accepted, remark-part as part}
+use Rattle.tape.proofs.Tapes.{tape-judged, passed-then, remark-part as part}
 use Rattle.tape_promises.specs.Grammar.{TapeFor}
 use Rattle.tape_promises.specs.Claims.{AcceptedTapes, LoadsLayout, KeptCells, KeptSize, KeptAll, LoadedMachines, SameVerdict, FirstRemark, RemarkPart}
 use Rattle.tape_promises.proofs.Grammars.{grammar, judged-of}
@@ -33,7 +33,7 @@ accepted-tapes n t = (
 
 load-judged : (t s : List ℕ) → judgeLoad t s ≡ Accepted → (judgeStore s ≡ Accepted) × TapeFor (length s) t
 unfolding judgeLoad
-load-judged t s e = let b = both-accepted (judgeStore s) _ e in (b .0, accepted-tapes (length s) t .0 (b .1))
+load-judged t s e = let b = passed-then (judgeStore s) _ e in (b .0, accepted-tapes (length s) t .0 (b .1))
 
 load-accepted : (t s : List ℕ) → judgeStore s ≡ Accepted → TapeFor (length s) t → judgeLoad t s ≡ Accepted
 unfolding judgeLoad

@@ -19,7 +19,7 @@ use Rattle.tape.proofs.Cells.{length-cells}
 use Rattle.tape.proofs.Judged.{first-none, first-here, first-next}
 use Rattle.tape.proofs.Loaded.{load-more, load-none}
 use Rattle.tape_promises.specs.Grammar.{Header, ControlPayload, Records, block-then, remark-then, control-then-end}
-use Rattle.tape_promises.specs.Contents.{Block, blocksOf, Names, Unnamed, Holds, written, kept, controlPayload, oneIf, ControlFields, firstRemark, spanOf, textOf}
+use Rattle.tape_promises.specs.Contents.{Block, blocksOf, Names, Unnamed, Holds, written, kept, controlPayload, oneIf, ControlFields, firstRemark, spanOf, remarkBytes}
 use Rattle.tape_promises.proofs.Grammars.{Reads, reads}
 
 -- ---- the cells of a store that takes a block
@@ -252,7 +252,7 @@ module _ (v : List ℕ) where
       ∙ first-later 3 [] [] e (reads-end e x) 4 (λ z. omega arith)
       ∙ first-none 4 [] (omega arith))
 
-pub text-is : {n : ℕ} {w : List ℕ} (at : ℕ) (r : Records n w) → payloadOf (firstOf 4 (recordsOf w)) ≡ textOf (firstRemark at r)
+pub text-is : {n : ℕ} {w : List ℕ} (at : ℕ) (r : Records n w) → payloadOf (firstOf 4 (recordsOf w)) ≡ remarkBytes (firstRemark at r)
 unfolding firstRemark payloadOf
 text-is at (block-then h p t d b r) =
     ap payloadOf (first-later 1 p t (h ++ (p ++ t)) (reads h p t 1 d) 4 (λ z. omega arith)) ∙ text-is (at + 6 + length p) r

@@ -1,7 +1,7 @@
 -- The judge and the grammar agree. Assumes nothing.
 use Prim.Native.Nat.{ℕ, _+_, _*_, _%_, _≤_, _<_}
 use mathlib.Core.Path.{_≡_, refl, sym, ap, subst, _∙_}
-use mathlib.Core.Bool.{Bool, true, false, cond}
+use mathlib.Core.Bool.{Bool, true, false}
 use mathlib.Core.List.{List, _++_}
 use native.Mathlib.Omega.{arith}
 use native.Mathlib.Decide.{ℕ-discrete}
@@ -10,7 +10,7 @@ use lib.ListN.{length, take, drop, getD, length-append, length-take, take-append
 use lib.Seq.{take-append-seam, drop-append-seam, drop-drop, getD-take}
 use lib.Dec.{leb, ltb, eqb}
 use Rattle.machine.specs.declared.Verdict.the-variants.{Accepted}
-use Rattle.acceptance.proofs.Tests.{both}
+use Rattle.acceptance.proofs.Tests.{both, neither}
 use Rattle.tape.specs.Layout.{numberAt, lengthOf, kindOf, payloadOf, restOf, firstCell, cellCount, flagsOf, lastByte}
 use Rattle.tape.specs.Judge.{kindKnown, inOrder, lengthFits, judgeBlock, controlGood, judgeControl, judgePayload}
 use Rattle.tape_promises.specs.Grammar.{Header, BlockPayload, ControlPayload, Records, block-then, remark-then, control-then-end}
@@ -77,14 +77,10 @@ end-of {n} {after} {t} (last g k h) a =
     record { bytes = omega arith; size = l; kind = k }
 end-of {n} {after} {t} (more g k j) a = absurd (k (eqb-true (kindOf t) 3 (rw a at (g .order))))
 
-second : (a b : Bool) → cond a false b ≡ true → (a ≡ false) × (b ≡ true)
-second true b e = let no : ⊥ = (let z : _≡_ {A = ℕ} 0 1 = cc in omega arith) in absurd no
-second false b e = (refl, e)
-
 kind-four : (k : ℕ) → kindKnown k ≡ true → (k ≡ 1 → ⊥) → (k ≡ 2 → ⊥) → (k ≡ 3 → ⊥) → k ≡ 4
 unfolding kindKnown
 kind-four k e a b c =
-    let h = second (ltb k 1) (leb k 4) e in
+    let h = neither (ltb k 1) (leb k 4) e in
     let l = ltb-false k 1 (h .0) in
     let u = leb-true k 4 (h .1) in
     omega arith

@@ -14,7 +14,7 @@ use Rattle.tape.specs.Judge.{judgeTape}
 use Rattle.tape.specs.Load.{Loaded, judgeLoad, loading}
 use Rattle.tape.specs.Remark.{judgeReading, remarkSpan, remarkText}
 use Rattle.tape_promises.specs.Grammar.{Records, TapeFor}
-use Rattle.tape_promises.specs.Contents.{blocksOf, Unnamed, Holds, controlPayload, ControlFields, firstRemark, spanOf, textOf}
+use Rattle.tape_promises.specs.Contents.{blocksOf, Unnamed, Holds, controlPayload, ControlFields, firstRemark, spanOf, remarkBytes}
 use Rattle.tape_promises.specs.Numbers.{TapeRefused, LoadRefused, ReadingRefused}
 
 -- ---- which tapes are accepted, and what they load
@@ -63,7 +63,7 @@ SameVerdict = (t s : List ℕ) → cellsFit s ≡ true → judgeReading t (lengt
 abbrev pub FirstRemark : Type 0
 FirstRemark =
     (t : List ℕ) (n : ℕ) → sizeFits n ≡ true → (h : TapeFor n t)
-    → (remarkSpan t n ≡ spanOf (firstRemark 0 (h .layout))) × (remarkText t n ≡ textOf (firstRemark 0 (h .layout)))
+    → (remarkSpan t n ≡ spanOf (firstRemark 0 (h .layout))) × (remarkText t n ≡ remarkBytes (firstRemark 0 (h .layout)))
 
 -- the text is the part of the tape between start and end
 pub record PartOf (t text : List ℕ) (start end : ℕ) : Type 0 where

@@ -74,6 +74,6 @@ abbrev pub spanOf : Remark → Span
 spanOf none = record { start = 0; end = 0; found = false; refusal = 0 }
 spanOf (remark start text) = record { start = start; end = start + length text; found = true; refusal = 0 }
 
-abbrev pub textOf : Remark → List ℕ
-textOf none = []
-textOf (remark start text) = text
+abbrev pub remarkBytes : Remark → List ℕ
+remarkBytes none = []
+remarkBytes (remark start text) = text
