@@ -1,3 +1,4 @@
+-- Made by tools/prove.py; not to be edited.
 use Rattle.acceptance.specs.Accept.{controlFits}
 use borrow.Author.Tests.{lt-ltb, le-ltb}
 use borrow.Author.Needs.{needs}
@@ -6,30 +7,83 @@ use Rattle.acceptance.proofs.control_fits.Tie as tie
 
 returns : tie.Need-returns
 unfolding controlFits
-returns c = rw (lt-ltb _ _ (c .before .before .before .before .before .before .before .before .if1 .taken), lt-ltb _ _ (c .before .before .before .before .before .before .if2 .taken), lt-ltb _ _ (c .before .before .before .before .if3 .taken), lt-ltb _ _ (c .before .before .if4 .taken), lt-ltb _ _ (c .if5 .taken))
+returns c =
+    let b4 = c .before .before .before .before in
+    let b8 = b4 .before .before .before .before in
+    rw (
+      lt-ltb _ _ (b8 .if1 .taken),
+      lt-ltb _ _ (b4 .before .before .if2 .taken),
+      lt-ltb _ _ (b4 .if3 .taken),
+      lt-ltb _ _ (c .before .before .if4 .taken),
+      lt-ltb _ _ (c .if5 .taken),
+    )
 
 state-fits-requires : tie.Need-state-fits-requires
 state-fits-requires c κs = search needs
 
 returns-2 : tie.Need-returns-2
 unfolding controlFits
-returns-2 c = rw (lt-ltb _ _ (c .before .before .before .before .before .before .before .before .before .before .before .before .before .if1 .taken), lt-ltb _ _ (c .before .before .before .before .before .before .before .before .before .before .before .if2 .taken), lt-ltb _ _ (c .before .before .before .before .before .before .before .before .before .if3 .taken), lt-ltb _ _ (c .before .before .before .before .before .before .before .if4 .taken), le-ltb _ _ (c .before .before .before .before .before .if5 .left), lt-ltb _ _ (c .before .before .before .if6 .taken), lt-ltb _ _ (c .before .if7 .taken), ← (c .state-fits .ensures))
+returns-2 c =
+    let b4 = c .before .before .before .before in
+    let b8 = b4 .before .before .before .before in
+    let b12 = b8 .before .before .before .before in
+    rw (
+      lt-ltb _ _ (b12 .before .if1 .taken),
+      lt-ltb _ _ (b8 .before .before .before .if2 .taken),
+      lt-ltb _ _ (b8 .before .if3 .taken),
+      lt-ltb _ _ (b4 .before .before .before .if4 .taken),
+      le-ltb _ _ (b4 .before .if5 .left),
+      lt-ltb _ _ (c .before .before .before .if6 .taken),
+      lt-ltb _ _ (c .before .if7 .taken),
+      ← (c .state-fits .ensures),
+    )
 
 returns-3 : tie.Need-returns-3
 unfolding controlFits
-returns-3 c = rw (lt-ltb _ _ (c .before .before .before .before .before .before .before .before .before .before .before .before .if1 .taken), lt-ltb _ _ (c .before .before .before .before .before .before .before .before .before .before .if2 .taken), lt-ltb _ _ (c .before .before .before .before .before .before .before .before .if3 .taken), lt-ltb _ _ (c .before .before .before .before .before .before .if4 .taken), le-ltb _ _ (c .before .before .before .before .if5 .left), lt-ltb _ _ (c .before .before .if6 .taken), le-ltb _ _ (c .if7 .left))
+returns-3 c =
+    let b4 = c .before .before .before .before in
+    let b8 = b4 .before .before .before .before in
+    let b12 = b8 .before .before .before .before in
+    rw (
+      lt-ltb _ _ (b12 .if1 .taken),
+      lt-ltb _ _ (b8 .before .before .if2 .taken),
+      lt-ltb _ _ (b8 .if3 .taken),
+      lt-ltb _ _ (b4 .before .before .if4 .taken),
+      le-ltb _ _ (b4 .if5 .left),
+      lt-ltb _ _ (c .before .before .if6 .taken),
+      le-ltb _ _ (c .if7 .left),
+    )
 
 returns-4 : tie.Need-returns-4
 unfolding controlFits
-returns-4 c = rw (lt-ltb _ _ (c .before .before .before .before .before .before .before .before .before .before .if1 .taken), lt-ltb _ _ (c .before .before .before .before .before .before .before .before .if2 .taken), lt-ltb _ _ (c .before .before .before .before .before .before .if3 .taken), lt-ltb _ _ (c .before .before .before .before .if4 .taken), le-ltb _ _ (c .before .before .if5 .left), le-ltb _ _ (c .if6 .left))
+returns-4 c =
+    let b4 = c .before .before .before .before in
+    let b8 = b4 .before .before .before .before in
+    rw (
+      lt-ltb _ _ (b8 .before .before .if1 .taken),
+      lt-ltb _ _ (b8 .if2 .taken),
+      lt-ltb _ _ (b4 .before .before .if3 .taken),
+      lt-ltb _ _ (b4 .if4 .taken),
+      le-ltb _ _ (c .before .before .if5 .left),
+      le-ltb _ _ (c .if6 .left),
+    )
 
 returns-5 : tie.Need-returns-5
 unfolding controlFits
-returns-5 c = rw (lt-ltb _ _ (c .before .before .before .before .before .before .if1 .taken), lt-ltb _ _ (c .before .before .before .before .if2 .taken), lt-ltb _ _ (c .before .before .if3 .taken), le-ltb _ _ (c .if4 .left))
+returns-5 c =
+    let b4 = c .before .before .before .before in
+    rw (
+      lt-ltb _ _ (b4 .before .before .if1 .taken),
+      lt-ltb _ _ (b4 .if2 .taken),
+      lt-ltb _ _ (c .before .before .if3 .taken),
+      le-ltb _ _ (c .if4 .left),
+    )
 
 returns-6 : tie.Need-returns-6
 unfolding controlFits
-returns-6 c = rw (lt-ltb _ _ (c .before .before .before .before .if1 .taken), lt-ltb _ _ (c .before .before .if2 .taken), le-ltb _ _ (c .if3 .left))
+returns-6 c =
+    let b4 = c .before .before .before .before in
+    rw (lt-ltb _ _ (b4 .if1 .taken), lt-ltb _ _ (c .before .before .if2 .taken), le-ltb _ _ (c .if3 .left))
 
 returns-7 : tie.Need-returns-7
 unfolding controlFits

@@ -1,3 +1,4 @@
+-- Made by tools/prove.py; not to be edited.
 use Rattle.acceptance.specs.Accept.{devicesFit}
 use borrow.Author.Tests.{lt-ltb, le-ltb}
 use borrow.Author.Needs.{needs}
@@ -9,7 +10,12 @@ characters-fit-requires c κs = search needs
 
 returns : tie.Need-returns
 unfolding devicesFit
-returns c = rw (lt-ltb _ _ (c .before .before .before .if1 .taken), lt-ltb _ _ (c .before .if2 .taken), ← (c .characters-fit .ensures))
+returns c =
+    rw (
+      lt-ltb _ _ (c .before .before .before .if1 .taken),
+      lt-ltb _ _ (c .before .if2 .taken),
+      ← (c .characters-fit .ensures),
+    )
 
 returns-2 : tie.Need-returns-2
 unfolding devicesFit

@@ -1,4 +1,4 @@
-use Rattle.acceptance.specs.Accept.{judgeRun}
+-- Made by tools/prove.py; not to be edited.
 use borrow.Author.Tests.{lt-ltb, le-ltb}
 use borrow.Author.Needs.{needs}
 use Rattle.acceptance.proofs.judge_call.Statement.{statement}
@@ -11,22 +11,32 @@ enum-told : tie.Need-enum-told
 enum-told c = search needs
 
 returns : tie.Need-returns
-unfolding judgeRun
-returns c = rw (← (c .before .before .before .before .judge-machine .ensures), c .before .before .enum-told .given .1, lt-ltb _ _ (c .before .if1 .taken), lt-ltb _ _ (c .if2 .taken))
+returns c =
+    let b4 = c .before .before .before .before in
+    rw (
+      ← (b4 .judge-machine .ensures),
+      c .before .before .enum-told .given .1,
+      lt-ltb _ _ (c .before .if1 .taken),
+      lt-ltb _ _ (c .if2 .taken),
+    )
 
 returns-2 : tie.Need-returns-2
-unfolding judgeRun
-returns-2 c = rw (← (c .before .before .before .before .judge-machine .ensures), c .before .before .enum-told .given .1, lt-ltb _ _ (c .before .if1 .taken), le-ltb _ _ (c .if2 .left))
+returns-2 c =
+    let b4 = c .before .before .before .before in
+    rw (
+      ← (b4 .judge-machine .ensures),
+      c .before .before .enum-told .given .1,
+      lt-ltb _ _ (c .before .if1 .taken),
+      le-ltb _ _ (c .if2 .left),
+    )
 
 enum-known-v : tie.Need-enum-known-v
 enum-known-v c = search needs
 
 returns-3 : tie.Need-returns-3
-unfolding judgeRun
 returns-3 c = rw (← (c .before .before .before .judge-machine .ensures), c .before .enum-told .given .1, le-ltb _ _ (c .if1 .left))
 
 returns-4 : tie.Need-returns-4
-unfolding judgeRun
 returns-4 c = rw (← (c .before .before .before .judge-machine .ensures), c .before .v .given .1)
 
 pub judge-call-spec : {M : Type 1} → statement M

@@ -1,3 +1,4 @@
+-- Made by tools/prove.py; not to be edited.
 use borrow.Author.Needs.{needs}
 use Rattle.acceptance.proofs.judge_devices.Statement.{statement}
 use Rattle.acceptance.proofs.judge_devices.Tie as tie

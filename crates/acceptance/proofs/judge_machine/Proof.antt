@@ -1,3 +1,4 @@
+-- Made by tools/prove.py; not to be edited.
 use Rattle.acceptance.specs.Accept.{judgeMachine}
 use borrow.Author.Needs.{needs}
 use Rattle.acceptance.proofs.judge_machine.Statement.{statement}
@@ -14,15 +15,39 @@ control-fits-requires c κs = search needs
 
 returns : tie.Need-returns
 unfolding judgeMachine
-returns c = rw (← (c .before .before .before .before .before .size-fits .ensures), c .before .before .before .before .if1 .taken, ← (c .before .before .before .cells-fit .ensures), c .before .before .if2 .taken, ← (c .before .control-fits .ensures), c .if3 .taken)
+returns c =
+    let b4 = c .before .before .before .before in
+    rw (
+      ← (b4 .before .size-fits .ensures),
+      b4 .if1 .taken,
+      ← (c .before .before .before .cells-fit .ensures),
+      c .before .before .if2 .taken,
+      ← (c .before .control-fits .ensures),
+      c .if3 .taken,
+    )
 
 returns-2 : tie.Need-returns-2
 unfolding judgeMachine
-returns-2 c = rw (← (c .before .before .before .before .before .size-fits .ensures), c .before .before .before .before .if1 .taken, ← (c .before .before .before .cells-fit .ensures), c .before .before .if2 .taken, ← (c .before .control-fits .ensures), c .if3 .left)
+returns-2 c =
+    let b4 = c .before .before .before .before in
+    rw (
+      ← (b4 .before .size-fits .ensures),
+      b4 .if1 .taken,
+      ← (c .before .before .before .cells-fit .ensures),
+      c .before .before .if2 .taken,
+      ← (c .before .control-fits .ensures),
+      c .if3 .left,
+    )
 
 returns-3 : tie.Need-returns-3
 unfolding judgeMachine
-returns-3 c = rw (← (c .before .before .before .size-fits .ensures), c .before .before .if1 .taken, ← (c .before .cells-fit .ensures), c .if2 .left)
+returns-3 c =
+    rw (
+      ← (c .before .before .before .size-fits .ensures),
+      c .before .before .if1 .taken,
+      ← (c .before .cells-fit .ensures),
+      c .if2 .left,
+    )
 
 returns-4 : tie.Need-returns-4
 unfolding judgeMachine

@@ -1,3 +1,4 @@
+-- Made by tools/prove.py; not to be edited.
 use Rattle.acceptance.specs.Accept.{judgeRun}
 use borrow.Author.Needs.{needs}
 use Rattle.acceptance.proofs.judge_run.Statement.{statement}

@@ -1,3 +1,4 @@
+-- Made by tools/prove.py; not to be edited.
 use Rattle.acceptance.specs.Accept.{judgeStore}
 use borrow.Author.Needs.{needs}
 use Rattle.acceptance.proofs.judge_store.Statement.{statement}
@@ -11,11 +12,23 @@ cells-fit-requires c κs = search needs
 
 returns : tie.Need-returns
 unfolding judgeStore
-returns c = rw (← (c .before .before .before .size-fits .ensures), c .before .before .if1 .taken, ← (c .before .cells-fit .ensures), c .if2 .taken)
+returns c =
+    rw (
+      ← (c .before .before .before .size-fits .ensures),
+      c .before .before .if1 .taken,
+      ← (c .before .cells-fit .ensures),
+      c .if2 .taken,
+    )
 
 returns-2 : tie.Need-returns-2
 unfolding judgeStore
-returns-2 c = rw (← (c .before .before .before .size-fits .ensures), c .before .before .if1 .taken, ← (c .before .cells-fit .ensures), c .if2 .left)
+returns-2 c =
+    rw (
+      ← (c .before .before .before .size-fits .ensures),
+      c .before .before .if1 .taken,
+      ← (c .before .cells-fit .ensures),
+      c .if2 .left,
+    )
 
 returns-3 : tie.Need-returns-3
 unfolding judgeStore

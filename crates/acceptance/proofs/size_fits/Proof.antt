@@ -1,3 +1,4 @@
+-- Made by tools/prove.py; not to be edited.
 use Rattle.acceptance.specs.Accept.{sizeFits}
 use borrow.Author.Tests.{lt-ltb, le-ltb}
 use Rattle.acceptance.proofs.size_fits.Statement.{statement}

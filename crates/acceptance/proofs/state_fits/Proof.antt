@@ -1,3 +1,4 @@
+-- Made by tools/prove.py; not to be edited.
 use borrow.Author.Needs.{needs}
 use Rattle.acceptance.specs.Accept.{stateFits}
 use Rattle.acceptance.proofs.state_fits.Statement.{statement}
