@@ -1,5 +1,6 @@
+-- Made by tools/prove.py; not to be edited.
 use Rattle.tape.specs.Judge.{controlGood}
-use borrow.Author.Tests.{eq-eqb, ne-eqb, lt-leb, le-leb}
+use borrow.Author.Tests.{eq-eqb, ne-eqb, le-leb, lt-leb}
 use borrow.Author.Needs.{needs}
 use Rattle.tape.proofs.control_good.Statement.{statement}
 use Rattle.tape.proofs.control_good.Tie as tie
@@ -18,7 +19,9 @@ control-fits-requires c κs = search needs
 
 returns : tie.Need-returns
 unfolding controlGood
-returns c = rw (le-leb _ _ (c .before .before .before .before .if1 .taken), eq-eqb _ _ (c .before .before .if2 .taken), ← (c .before .control-of .ensures), ← (c .control-fits .ensures))
+returns c =
+    let b4 = c .before .before .before .before in
+    rw (le-leb _ _ (b4 .if1 .taken), eq-eqb _ _ (c .before .before .if2 .taken), ← (c .before .control-of .ensures), ← (c .control-fits .ensures))
 
 returns-2 : tie.Need-returns-2
 unfolding controlGood

@@ -1,3 +1,4 @@
+-- Made by tools/prove.py; not to be edited.
 use Rattle.tape.specs.Layout.{controlOf}
 use borrow.Author.Needs.{needs}
 use Rattle.tape.proofs.control_of.Statement.{statement}
@@ -38,7 +39,17 @@ shared-slice-read-t22 c = search needs
 
 returns : tie.Need-returns
 unfolding controlOf
-returns c = rw (← (c .before .before .before .before .before .before .before .before .before .before .number-at .ensures), ← (c .before .before .before .before .before .before .before .before .before .number-at2 .ensures), ← (c .before .before .before .before .before .before .before .before .number-at3 .ensures), ← (c .before .before .before .before .before .before .before .number-at4 .ensures), ← (c .before .before .before .before .before .wide .ensures), ← (c .before .before .before .wide2 .ensures))
+returns c =
+    let b4 = c .before .before .before .before in
+    let b8 = b4 .before .before .before .before in
+    rw (
+      ← (b8 .before .before .number-at .ensures),
+      ← (b8 .before .number-at2 .ensures),
+      ← (b8 .number-at3 .ensures),
+      ← (b4 .before .before .before .number-at4 .ensures),
+      ← (b4 .before .wide .ensures),
+      ← (c .before .before .before .wide2 .ensures),
+    )
 
 pub control-of-spec : {M : Type 1} → statement M
 control-of-spec =

@@ -1,3 +1,4 @@
+-- Made by tools/prove.py; not to be edited.
 use Rattle.tape.specs.Judge.{inOrder}
 use Rattle.tape.proofs.in_order.Statement.{statement}
 use Rattle.tape.proofs.in_order.Tie as tie

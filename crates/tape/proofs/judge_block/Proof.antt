@@ -1,6 +1,7 @@
-use borrow.Author.Tests.{le-leb, lt-leb}
+-- Made by tools/prove.py; not to be edited.
 use Rattle.tape.specs.Judge.{judgeBlock}
 use Rattle.tape.specs.Layout.{blockCells}
+use borrow.Author.Tests.{lt-leb, le-leb}
 use borrow.Author.Needs.{needs}
 use Rattle.tape.proofs.judge_block.Statement.{statement}
 use Rattle.tape.proofs.judge_block.Tie as tie
@@ -22,11 +23,23 @@ block-cells-fit-requires c κs = search needs
 
 returns : tie.Need-returns
 unfolding judgeBlock blockCells
-returns c = rw (← (c .before .before .before .number-at .ensures), le-leb _ _ (c .before .before .if1 .taken), ← (c .before .block-cells-fit .ensures), c .if2 .taken)
+returns c =
+    rw (
+      ← (c .before .before .before .number-at .ensures),
+      le-leb _ _ (c .before .before .if1 .taken),
+      ← (c .before .block-cells-fit .ensures),
+      c .if2 .taken,
+    )
 
 returns-2 : tie.Need-returns-2
 unfolding judgeBlock blockCells
-returns-2 c = rw (← (c .before .before .before .number-at .ensures), le-leb _ _ (c .before .before .if1 .taken), ← (c .before .block-cells-fit .ensures), c .if2 .left)
+returns-2 c =
+    rw (
+      ← (c .before .before .before .number-at .ensures),
+      le-leb _ _ (c .before .before .if1 .taken),
+      ← (c .before .block-cells-fit .ensures),
+      c .if2 .left,
+    )
 
 returns-3 : tie.Need-returns-3
 unfolding judgeBlock blockCells

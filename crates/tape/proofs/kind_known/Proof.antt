@@ -1,3 +1,4 @@
+-- Made by tools/prove.py; not to be edited.
 use Rattle.tape.specs.Judge.{kindKnown}
 use borrow.Author.Tests.{lt-ltb, le-ltb}
 use Rattle.tape.proofs.kind_known.Statement.{statement}

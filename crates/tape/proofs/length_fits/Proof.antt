@@ -1,3 +1,4 @@
+-- Made by tools/prove.py; not to be edited.
 use Rattle.tape.specs.Judge.{lengthFits}
 use borrow.Author.Tests.{eq-eqb, ne-eqb}
 use Rattle.tape.proofs.length_fits.Statement.{statement}

@@ -1,3 +1,4 @@
+-- Made by tools/prove.py; not to be edited.
 use Rattle.tape.specs.Steps.{lookFor}
 use borrow.Author.Tests.{lt-ltb, eq-eqb, le-ltb, ne-eqb, le-leb, lt-leb}
 use borrow.Author.Needs.{needs}
@@ -23,11 +24,27 @@ add-next c = search needs
 
 returns-3 : tie.Need-returns-3
 unfolding lookFor
-returns-3 c = rw (le-ltb _ _ (c .before .before .before .before .if1 .left), ← (c .before .before .before .record-kind .ensures), ne-eqb _ _ (c .before .before .if2 .left), ← (c .before .record-length .ensures .0), le-leb _ _ (c .if3 .taken))
+returns-3 c =
+    let b4 = c .before .before .before .before in
+    rw (
+      le-ltb _ _ (b4 .if1 .left),
+      ← (c .before .before .before .record-kind .ensures),
+      ne-eqb _ _ (c .before .before .if2 .left),
+      ← (c .before .record-length .ensures .0),
+      le-leb _ _ (c .if3 .taken),
+    )
 
 returns-4 : tie.Need-returns-4
 unfolding lookFor
-returns-4 c = rw (le-ltb _ _ (c .before .before .before .before .if1 .left), ← (c .before .before .before .record-kind .ensures), ne-eqb _ _ (c .before .before .if2 .left), ← (c .before .record-length .ensures .0), lt-leb _ _ (c .if3 .left))
+returns-4 c =
+    let b4 = c .before .before .before .before in
+    rw (
+      le-ltb _ _ (b4 .if1 .left),
+      ← (c .before .before .before .record-kind .ensures),
+      ne-eqb _ _ (c .before .before .if2 .left),
+      ← (c .before .record-length .ensures .0),
+      lt-leb _ _ (c .if3 .left),
+    )
 
 pub look-for-spec : {M : Type 1} → statement M
 look-for-spec =

@@ -1,5 +1,6 @@
+-- Made by tools/prove.py; not to be edited.
 use Rattle.tape.specs.Steps.{stepAfter}
-use borrow.Author.Tests.{eq-eqb, ne-eqb, lt-leb, le-leb}
+use borrow.Author.Tests.{eq-eqb, ne-eqb, le-leb, lt-leb}
 use borrow.Author.Needs.{needs}
 use Rattle.tape.proofs.step_after.Statement.{statement}
 use Rattle.tape.proofs.step_after.Tie as tie
@@ -15,11 +16,23 @@ add-next c = search needs
 
 returns : tie.Need-returns
 unfolding stepAfter
-returns c = rw (← (c .before .before .before .record-kind .ensures), ← (c .before .before .record-length .ensures .0), eq-eqb _ _ (c .before .if1 .taken), le-leb _ _ (c .if2 .taken))
+returns c =
+    rw (
+      ← (c .before .before .before .record-kind .ensures),
+      ← (c .before .before .record-length .ensures .0),
+      eq-eqb _ _ (c .before .if1 .taken),
+      le-leb _ _ (c .if2 .taken),
+    )
 
 returns-2 : tie.Need-returns-2
 unfolding stepAfter
-returns-2 c = rw (← (c .before .before .before .record-kind .ensures), ← (c .before .before .record-length .ensures .0), eq-eqb _ _ (c .before .if1 .taken), lt-leb _ _ (c .if2 .left))
+returns-2 c =
+    rw (
+      ← (c .before .before .before .record-kind .ensures),
+      ← (c .before .before .record-length .ensures .0),
+      eq-eqb _ _ (c .before .if1 .taken),
+      lt-leb _ _ (c .if2 .left),
+    )
 
 returns-3 : tie.Need-returns-3
 unfolding stepAfter
