@@ -1,3 +1,4 @@
+-- Made by tools/prove.py; not to be edited.
 use Rattle.divide.specs.Wd.{wd}
 use borrow.Author.Needs.{needs}
 use Rattle.divide.proofs.divide.Statement.{statement}
@@ -29,7 +30,7 @@ finish-requires c κs = search needs
 
 returns : tie.Need-returns
 unfolding wd
-returns c = (cc, search needs)
+returns c = (rw (← (c .before .before .signed25 .ensures), ← (c .before .steps .ensures .0), ← (c .finish .ensures .0)), search needs)
 
 pub divide-spec : {M : Type 1} → statement M
 divide-spec =

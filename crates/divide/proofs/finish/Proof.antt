@@ -1,5 +1,6 @@
+-- Made by tools/prove.py; not to be edited.
 use Rattle.divide.specs.Wd.{wdEnd}
-use Rattle.registers.proofs.Tests.{tests, same, differ}
+use borrow.Author.Tests.{eq-eqb, ne-eqb}
 use borrow.Author.Needs.{needs}
 use Rattle.divide.proofs.finish.Statement.{statement}
 use Rattle.divide.proofs.finish.Tie as tie
@@ -9,7 +10,7 @@ keep-requires c κs = search needs
 
 returns : tie.Need-returns
 unfolding wdEnd
-returns c = (search tests, search needs)
+returns c = (rw (eq-eqb _ _ (c .before .if1 .taken), ← (c .keep .ensures .0)), search needs)
 
 magnitude-requires : tie.Need-magnitude-requires
 magnitude-requires c κs = search needs
@@ -22,7 +23,17 @@ correct-requires c κs = search needs
 
 returns-2 : tie.Need-returns-2
 unfolding wdEnd
-returns-2 c = (let e = same (c .before .before .before .magnitude .ensures) (c .before .before .magnitude2 .ensures) (c .before .if2 .taken) in search tests, search needs)
+returns-2 c = (
+  let b4 = c .before .before .before .before in
+      rw (
+        ne-eqb _ _ (b4 .if1 .left),
+        ← (c .before .before .before .magnitude .ensures),
+        ← (c .before .before .magnitude2 .ensures),
+        eq-eqb _ _ (c .before .if2 .taken),
+        ← (c .correct .ensures .0),
+      ),
+  search needs,
+)
 
 mul-match-sign : tie.Need-mul-match-sign
 mul-match-sign c = search needs
@@ -35,7 +46,17 @@ match-sign-requires c κs = search needs
 
 returns-3 : tie.Need-returns-3
 unfolding wdEnd
-returns-3 c = (let e = differ (c .before .before .before .magnitude .ensures) (c .before .before .magnitude2 .ensures) (c .before .if2 .left) in search tests, search needs)
+returns-3 c = (
+  let b4 = c .before .before .before .before in
+      rw (
+        ne-eqb _ _ (b4 .if1 .left),
+        ← (c .before .before .before .magnitude .ensures),
+        ← (c .before .before .magnitude2 .ensures),
+        ne-eqb _ _ (c .before .if2 .left),
+        ← (c .match-sign .ensures .0),
+      ),
+  search needs,
+)
 
 pub finish-spec : {M : Type 1} → statement M
 finish-spec =

@@ -1,5 +1,6 @@
+-- Made by tools/prove.py; not to be edited.
 use Rattle.divide.specs.Wd.{abs24}
-use Rattle.registers.proofs.Tests.{tests}
+use borrow.Author.Tests.{lt-ltb, le-ltb}
 use borrow.Author.Needs.{needs}
 use Rattle.divide.proofs.magnitude.Statement.{statement}
 use Rattle.divide.proofs.magnitude.Tie as tie
@@ -9,11 +10,11 @@ sub-result c = search needs
 
 returns : tie.Need-returns
 unfolding abs24
-returns c = search tests
+returns c = rw (lt-ltb _ _ (c .if1 .taken))
 
 returns-2 : tie.Need-returns-2
 unfolding abs24
-returns-2 c = search tests
+returns-2 c = rw (le-ltb _ _ (c .if1 .left))
 
 pub magnitude-spec : {M : Type 1} → statement M
 magnitude-spec = tie.close (tie.spec sub-result returns returns-2)

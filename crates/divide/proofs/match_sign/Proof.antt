@@ -1,5 +1,6 @@
+-- Made by tools/prove.py; not to be edited.
 use Rattle.divide.specs.Wd.{wdSign}
-use Rattle.registers.proofs.Tests.{tests}
+use borrow.Author.Tests.{eq-eqb, ne-eqb}
 use borrow.Author.Needs.{needs}
 use Rattle.divide.proofs.match_sign.Statement.{statement}
 use Rattle.divide.proofs.match_sign.Tie as tie
@@ -39,19 +40,35 @@ store-requires-4 c κs = search needs
 
 returns : tie.Need-returns
 unfolding wdSign
-returns c = (search tests, search needs)
+returns c = (rw (eq-eqb _ _ (c .before .if1 .taken), ← (c .store .ensures .0)), search needs)
 
 returns-2 : tie.Need-returns-2
 unfolding wdSign
-returns-2 c = (search tests, search needs)
+returns-2 c = (rw (ne-eqb _ _ (c .before .before .if1 .left), eq-eqb _ _ (c .before .if2 .taken), ← (c .store2 .ensures .0)), search needs)
 
 returns-3 : tie.Need-returns-3
 unfolding wdSign
-returns-3 c = (search tests, search needs)
+returns-3 c = (
+  rw (
+    ne-eqb _ _ (c .before .before .before .if1 .left),
+    ne-eqb _ _ (c .before .before .if2 .left),
+    eq-eqb _ _ (c .before .if3 .taken),
+    ← (c .store3 .ensures .0),
+  ),
+  search needs,
+)
 
 returns-4 : tie.Need-returns-4
 unfolding wdSign
-returns-4 c = (search tests, search needs)
+returns-4 c = (
+  rw (
+    ne-eqb _ _ (c .before .before .before .if1 .left),
+    ne-eqb _ _ (c .before .before .if2 .left),
+    ne-eqb _ _ (c .before .if3 .left),
+    ← (c .store4 .ensures .0),
+  ),
+  search needs,
+)
 
 pub match-sign-spec : {M : Type 1} → statement M
 match-sign-spec =

@@ -1,5 +1,6 @@
-use Rattle.registers.proofs.Tests.{tests}
+-- Made by tools/prove.py; not to be edited.
 use Rattle.divide.specs.Wd.{wdStep}
+use borrow.Author.Tests.{eq-eqb, ne-eqb}
 use borrow.Author.Needs.{needs}
 use Rattle.divide.proofs.step.Statement.{statement}
 use Rattle.divide.proofs.step.Tie as tie
@@ -27,11 +28,11 @@ add-ar-requires c κs = search needs
 
 returns : tie.Need-returns
 unfolding wdStep
-returns c = (search tests, search needs)
+returns c = (rw (eq-eqb _ _ (c .before .if1 .taken), ← (c .sub-ar .ensures .0)), search needs)
 
 returns-2 : tie.Need-returns-2
 unfolding wdStep
-returns-2 c = (search tests, search needs)
+returns-2 c = (rw (ne-eqb _ _ (c .before .if1 .left), ← (c .add-ar .ensures .0)), search needs)
 
 pub step-spec : {M : Type 1} → statement M
 step-spec =

@@ -1,3 +1,4 @@
+-- Made by tools/prove.py; not to be edited.
 use Rattle.integer.specs.Sums.{sum}
 use borrow.Author.Needs.{needs}
 use Rattle.integer.proofs.add.Statement.{statement}
@@ -14,7 +15,7 @@ add-once-requires c κs = search needs
 
 returns : tie.Need-returns
 unfolding sum
-returns c = (cc, search needs)
+returns c = (rw (← (c .before .before .signed25 .ensures), ← (c .before .signed252 .ensures), ← (c .add-once .ensures .0)), search needs)
 
 pub add-spec : {M : Type 1} → statement M
 add-spec = tie.close (tie.spec signed25-requires signed25-requires-2 add-once-requires returns)

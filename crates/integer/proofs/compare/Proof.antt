@@ -1,3 +1,4 @@
+-- Made by tools/prove.py; not to be edited.
 use borrow.Author.Needs.{needs}
 use Rattle.integer.proofs.compare.Statement.{statement}
 use Rattle.integer.proofs.compare.Tie as tie
@@ -18,7 +19,7 @@ add-result-2 : tie.Need-add-result-2
 add-result-2 c = search needs
 
 returns : tie.Need-returns
-returns c = cc
+returns c = rw (← (c .before .signed25 .ensures), ← (c .signed252 .ensures))
 
 pub compare-spec : {M : Type 1} → statement M
 compare-spec =

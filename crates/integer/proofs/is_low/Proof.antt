@@ -1,4 +1,4 @@
-use mathlib.Core.Path.{refl}
+-- Made by tools/prove.py; not to be edited.
 use Rattle.integer.specs.Skip.{isLow}
 use borrow.Author.Needs.{needs}
 use Rattle.integer.proofs.is_low.Statement.{statement}
@@ -9,7 +9,7 @@ compare-requires c κs = search needs
 
 returns : tie.Need-returns
 unfolding isLow
-returns c = rw (c .compare .ensures) refl
+returns c = rw (← (c .compare .ensures))
 
 pub is-low-spec : {M : Type 1} → statement M
 is-low-spec = tie.close (tie.spec compare-requires returns)

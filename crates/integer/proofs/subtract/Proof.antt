@@ -1,3 +1,4 @@
+-- Made by tools/prove.py; not to be edited.
 use Rattle.integer.specs.Sums.{difference}
 use borrow.Author.Needs.{needs}
 use Rattle.integer.proofs.subtract.Statement.{statement}
@@ -17,7 +18,7 @@ add-once-requires c κs = search needs
 
 returns : tie.Need-returns
 unfolding difference
-returns c = (cc, search needs)
+returns c = (rw (← (c .before .before .signed25 .ensures), ← (c .before .signed252 .ensures), ← (c .add-once .ensures .0)), search needs)
 
 pub subtract-spec : {M : Type 1} → statement M
 subtract-spec =

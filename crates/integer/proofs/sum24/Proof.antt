@@ -1,4 +1,4 @@
-use Rattle.integer.specs.Sums.{sum24}
+-- Made by tools/prove.py; not to be edited.
 use Rattle.integer.specs.Sums.{sum24}
 use borrow.Author.Needs.{needs}
 use Rattle.integer.proofs.sum24.Statement.{statement}

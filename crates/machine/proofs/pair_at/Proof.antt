@@ -1,3 +1,4 @@
+-- Made by tools/prove.py; not to be edited.
 use Rattle.machine.specs.Store.{pair}
 use borrow.Author.Needs.{needs}
 use Rattle.machine.proofs.pair_at.Statement.{statement}
@@ -17,7 +18,15 @@ joined-requires c κs = search needs
 
 returns : tie.Need-returns
 unfolding pair
-returns c = (rw (← (c .before .before .before .previous-register .ensures), ← (c .before .before .word-at .ensures .0), ← (c .before .word-at2 .ensures .0), ← (c .joined .ensures .0)), search needs)
+returns c = (
+  rw (
+    ← (c .before .before .before .previous-register .ensures),
+    ← (c .before .before .word-at .ensures .0),
+    ← (c .before .word-at2 .ensures .0),
+    ← (c .joined .ensures .0),
+  ),
+  search needs,
+)
 
 pub pair-at-spec : {M : Type 1} → statement M
 pair-at-spec =

@@ -1,3 +1,4 @@
+-- Made by tools/prove.py; not to be edited.
 use Rattle.machine.specs.Store.{putByte}
 use borrow.Author.Needs.{needs}
 use Rattle.machine.proofs.put_byte.Statement.{statement}
@@ -17,7 +18,9 @@ same-length c = search needs
 
 returns : tie.Need-returns
 unfolding putByte
-returns c = rw (← (c .before .before .before .before .before .word-at .ensures .0), ← (c .before .before .before .before .with-byte .ensures), ← (c .before .before .put-word .ensures))
+returns c =
+    let b4 = c .before .before .before .before in
+    rw (← (b4 .before .word-at .ensures .0), ← (b4 .with-byte .ensures), ← (c .before .before .put-word .ensures))
 
 pub put-byte-spec : {M : Type 1} → statement M
 put-byte-spec =

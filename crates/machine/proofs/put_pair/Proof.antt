@@ -1,3 +1,4 @@
+-- Made by tools/prove.py; not to be edited.
 use Rattle.machine.specs.Store.{putWord}
 use borrow.Author.Needs.{needs}
 use Rattle.machine.proofs.put_pair.Statement.{statement}
@@ -17,7 +18,14 @@ same-length c = search needs
 
 returns : tie.Need-returns
 unfolding putWord
-returns c = rw (← (c .before .before .before .before .before .before .before .before .previous-register .ensures), ← (c .before .before .before .before .before .before .put-long .ensures), ← (c .before .before .put-long2 .ensures))
+returns c =
+    let b4 = c .before .before .before .before in
+    let b8 = b4 .before .before .before .before in
+    rw (
+      ← (b8 .previous-register .ensures),
+      ← (b4 .before .before .put-long .ensures),
+      ← (c .before .before .put-long2 .ensures),
+    )
 
 pub put-pair-spec : {M : Type 1} → statement M
 put-pair-spec =

@@ -1,3 +1,4 @@
+-- Made by tools/prove.py; not to be edited.
 use Rattle.machine.specs.Store.{putWord}
 use borrow.Author.Needs.{needs}
 use Rattle.machine.proofs.put_word.Statement.{statement}
@@ -17,7 +18,9 @@ same-length c = search needs
 
 returns : tie.Need-returns
 unfolding putWord
-returns c = rw (← (c .before .before .before .before .before .cell-at .ensures), ← (c .before .before .before .before .with-word .ensures), ← (c .before .before .put-cell .ensures))
+returns c =
+    let b4 = c .before .before .before .before in
+    rw (← (b4 .before .cell-at .ensures), ← (b4 .with-word .ensures), ← (c .before .before .put-cell .ensures))
 
 pub put-word-spec : {M : Type 1} → statement M
 put-word-spec =

@@ -1,3 +1,4 @@
+-- Made by tools/prove.py; not to be edited.
 use Rattle.tape.specs.Load.{judgeLoad}
 use borrow.Author.Needs.{needs}
 use Rattle.tape.proofs.judge_load.Statement.{statement}

@@ -1,3 +1,4 @@
+-- Made by tools/prove.py; not to be edited.
 use Rattle.tape.specs.Steps.{stepOf}
 use borrow.Author.Tests.{lt-ltb, le-ltb}
 use borrow.Author.Needs.{needs}
@@ -22,11 +23,20 @@ enum-known-v c = search needs
 
 returns-2 : tie.Need-returns-2
 unfolding stepOf
-returns-2 c = rw (le-ltb _ _ (c .before .before .before .before .if1 .left), ← (c .before .before .before .judge-record .ensures), c .before .enum-told .given .1, ← (c .step-after .ensures))
+returns-2 c =
+    let b4 = c .before .before .before .before in
+    rw (
+      le-ltb _ _ (b4 .if1 .left),
+      ← (c .before .before .before .judge-record .ensures),
+      c .before .enum-told .given .1,
+      ← (c .step-after .ensures),
+    )
 
 returns-3 : tie.Need-returns-3
 unfolding stepOf
-returns-3 c = rw (le-ltb _ _ (c .before .before .before .before .if1 .left), ← (c .before .before .before .judge-record .ensures), c .before .v .given .1)
+returns-3 c =
+    let b4 = c .before .before .before .before in
+    rw (le-ltb _ _ (b4 .if1 .left), ← (c .before .before .before .judge-record .ensures), c .before .v .given .1)
 
 pub judge-step-spec : {M : Type 1} → statement M
 judge-step-spec =

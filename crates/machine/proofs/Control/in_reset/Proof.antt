@@ -1,3 +1,4 @@
+-- Made by tools/prove.py; not to be edited.
 use borrow.Author.Needs.{needs}
 use Rattle.machine.specs.Records.{resetRecord}
 use Rattle.machine.proofs.Control.in_reset.Statement.{statement}

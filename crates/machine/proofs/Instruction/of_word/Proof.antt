@@ -1,3 +1,4 @@
+-- Made by tools/prove.py; not to be edited.
 use borrow.Author.Needs.{needs}
 use Rattle.machine.specs.Format.{instructionFields}
 use Rattle.machine.proofs.Instruction.of_word.Statement.{statement}
