@@ -1,3 +1,4 @@
+-- Made by tools/prove.py; not to be edited.
 use borrow.Author.Tests.{not-true, not-false}
 use Rattle.tape.specs.Remark.{judgeReading}
 use borrow.Author.Needs.{needs}
@@ -16,7 +17,12 @@ judge-tape-requires c κs = search needs
 
 returns-2 : tie.Need-returns-2
 unfolding judgeReading
-returns-2 c = rw (← (c .before .before .size-fits .ensures), not-false (c .before .before .size-fits .result) (c .before .if1 .left), ← (c .judge-tape .ensures))
+returns-2 c =
+    rw (
+      ← (c .before .before .size-fits .ensures),
+      not-false (c .before .before .size-fits .result) (c .before .if1 .left),
+      ← (c .judge-tape .ensures),
+    )
 
 pub judge-reading-spec : {M : Type 1} → statement M
 judge-reading-spec = tie.close (tie.spec size-fits-requires returns judge-tape-requires returns-2)
