@@ -1,6 +1,6 @@
-use native.Mathlib.Omega.{arith}
+-- Made by tools/prove.py; not to be edited.
 use Rattle.rounding.specs.Store.{precise}
-use Rattle.registers.proofs.Tests.{tests}
+use borrow.Author.Tests.{eq-eqb, ne-eqb}
 use borrow.Author.Needs.{needs}
 use Rattle.rounding.proofs.precise_af.Statement.{statement}
 use Rattle.rounding.proofs.precise_af.Tie as tie
@@ -19,11 +19,11 @@ add-result-2 c = search needs
 
 returns : tie.Need-returns
 unfolding precise
-returns c = (search tests, omega arith)
+returns c = (rw (eq-eqb _ _ (c .if1 .taken)), search needs)
 
 returns-2 : tie.Need-returns-2
 unfolding precise
-returns-2 c = (search tests, search needs)
+returns-2 c = (rw (ne-eqb _ _ (c .if1 .left)), search needs)
 
 pub precise-af-spec : {M : Type 1} → statement M
 precise-af-spec =
