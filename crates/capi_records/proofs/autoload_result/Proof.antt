@@ -1,3 +1,4 @@
+-- Made by tools/prove.py; not to be edited.
 use borrow.Author.Needs.{needs}
 use Rattle.capi_records.proofs.autoload_result.Statement.{statement}
 use Rattle.capi_records.proofs.autoload_result.Tie as tie

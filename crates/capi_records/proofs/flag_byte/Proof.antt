@@ -1,3 +1,4 @@
+-- Made by tools/prove.py; not to be edited.
 use borrow.Author.Needs.{needs}
 use Rattle.capi_records.specs.Results.{flagByte}
 use Rattle.capi_records.proofs.flag_byte.Statement.{statement}

@@ -1,3 +1,4 @@
+-- Made by tools/prove.py; not to be edited.
 use Rattle.capi_records.specs.Results.{judgeFlags}
 use borrow.Author.Needs.{needs}
 use Rattle.capi_records.proofs.judge_flags.Statement.{statement}
@@ -21,11 +22,25 @@ enum-known-v c = search needs
 
 returns-2 : tie.Need-returns-2
 unfolding judgeFlags
-returns-2 c = rw (← (c .before .before .before .before .flags-fit .ensures), c .before .before .before .if1 .left, ← (c .before .before .judge-store .ensures), c .enum-told .given .1)
+returns-2 c =
+    let b4 = c .before .before .before .before in
+    rw (
+      ← (b4 .flags-fit .ensures),
+      c .before .before .before .if1 .left,
+      ← (c .before .before .judge-store .ensures),
+      c .enum-told .given .1,
+    )
 
 returns-3 : tie.Need-returns-3
 unfolding judgeFlags
-returns-3 c = rw (← (c .before .before .before .before .before .flags-fit .ensures), c .before .before .before .before .if1 .left, ← (c .before .before .before .judge-store .ensures), c .before .v .given .1)
+returns-3 c =
+    let b4 = c .before .before .before .before in
+    rw (
+      ← (b4 .before .flags-fit .ensures),
+      b4 .if1 .left,
+      ← (c .before .before .before .judge-store .ensures),
+      c .before .v .given .1,
+    )
 
 pub judge-flags-spec : {M : Type 1} → statement M
 judge-flags-spec =

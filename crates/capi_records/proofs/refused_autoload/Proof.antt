@@ -1,3 +1,4 @@
+-- Made by tools/prove.py; not to be edited.
 use borrow.Author.Needs.{needs}
 use Rattle.capi_records.proofs.refused_autoload.Statement.{statement}
 use Rattle.capi_records.proofs.refused_autoload.Tie as tie

@@ -1,3 +1,4 @@
+-- Made by tools/prove.py; not to be edited.
 use borrow.Author.Needs.{needs}
 use Rattle.capi_records.proofs.run_result.Statement.{statement}
 use Rattle.capi_records.proofs.run_result.Tie as tie
@@ -24,7 +25,14 @@ returns : tie.Need-returns
 returns c = rw (c .before .before .a .given .1, ← (c .refused-run .ensures))
 
 returns-2 : tie.Need-returns-2
-returns-2 c = rw (c .before .before .before .before .before .before .a2 .given .1, ← (c .before .before .before .of .ensures), ← (c .before .before .outcome-code .ensures), ← (c .before .outcome-number .ensures))
+returns-2 c =
+    let b4 = c .before .before .before .before in
+    rw (
+      b4 .before .before .a2 .given .1,
+      ← (c .before .before .before .of .ensures),
+      ← (c .before .before .outcome-code .ensures),
+      ← (c .before .outcome-number .ensures),
+    )
 
 pub run-result-spec : {M : Type 1} → statement M
 run-result-spec =

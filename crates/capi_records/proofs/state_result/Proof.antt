@@ -1,3 +1,4 @@
+-- Made by tools/prove.py; not to be edited.
 use borrow.Author.Needs.{needs}
 use Rattle.capi_records.proofs.state_result.Statement.{statement}
 use Rattle.capi_records.proofs.state_result.Tie as tie

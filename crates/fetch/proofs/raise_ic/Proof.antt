@@ -1,3 +1,4 @@
+-- Made by tools/prove.py; not to be edited.
 use Rattle.machine.specs.Fields.{withIC}
 use borrow.Author.Needs.{needs}
 use Rattle.fetch.proofs.raise_ic.Statement.{statement}
@@ -14,7 +15,13 @@ set-ic-requires c κs = search needs
 
 returns : tie.Need-returns
 unfolding withIC
-returns c = (rw (← (rw (c .before .before .before .ic .ensures) at (c .before .before .sum24 .ensures .0)), ← (c .set-ic .ensures .0)), search needs)
+returns c = (
+  rw (
+    ← (rw (c .before .before .before .ic .ensures) at (c .before .before .sum24 .ensures .0)),
+    ← (c .set-ic .ensures .0),
+  ),
+  search needs,
+)
 
 pub raise-ic-spec : {M : Type 1} → statement M
 raise-ic-spec = tie.close (tie.spec ic-requires sum24-requires set-ic-requires returns)

@@ -1,3 +1,4 @@
+-- Made by tools/prove.py; not to be edited.
 use Rattle.definition_runs.specs.Cycle.{bitFromLeft}
 use borrow.Author.Needs.{needs}
 use Rattle.interruption.proofs.bit_from_left.Statement.{statement}

@@ -1,3 +1,4 @@
+-- Made by tools/prove.py; not to be edited.
 use Rattle.definition_runs.specs.Cycle.{requested}
 use borrow.Author.Tests.{eq-eqb, ne-eqb}
 use borrow.Author.Needs.{needs}
@@ -19,4 +20,5 @@ unfolding requested
 returns-2 c = rw (← (c .before .before .bit-from-left .ensures), ← (c .before .bit-from-left2 .ensures), ne-eqb _ _ (c .if1 .left))
 
 pub is-requested-spec : {M : Type 1} → statement M
-is-requested-spec = tie.close (tie.spec bit-from-left-requires bit-from-left-requires-2 returns returns-2)
+is-requested-spec =
+    tie.close (tie.spec bit-from-left-requires bit-from-left-requires-2 returns returns-2)

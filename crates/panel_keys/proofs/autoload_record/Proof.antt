@@ -1,3 +1,4 @@
+-- Made by tools/prove.py; not to be edited.
 use borrow.Author.Needs.{needs}
 use Rattle.definition_runs.specs.Keys.{autoloadRecord}
 use Rattle.panel_keys.proofs.autoload_record.Statement.{statement}

@@ -1,3 +1,4 @@
+-- Made by tools/prove.py; not to be edited.
 use Rattle.definition_runs.specs.Keys.{pressingStart}
 use borrow.Author.Needs.{needs}
 use Rattle.panel_keys.proofs.press_start.Statement.{statement}
@@ -20,7 +21,9 @@ same-length c = search needs
 
 returns : tie.Need-returns
 unfolding pressingStart
-returns c = rw (← (c .before .before .before .before .before .before .judge-machine .ensures), c .before .before .before .before .enum-told .given .1, ← (c .before .before .start-key .ensures))
+returns c =
+    let b4 = c .before .before .before .before in
+    rw (← (b4 .before .before .judge-machine .ensures), b4 .enum-told .given .1, ← (c .before .before .start-key .ensures))
 
 same-length-2 : tie.Need-same-length-2
 same-length-2 c = search needs

@@ -1,3 +1,4 @@
+-- Made by tools/prove.py; not to be edited.
 use Rattle.definition_runs.specs.Keys.{startKey}
 use borrow.Author.Needs.{needs}
 use Rattle.panel_keys.proofs.start_key.Statement.{statement}

@@ -1,3 +1,4 @@
+-- Made by tools/prove.py; not to be edited.
 use Rattle.capi_records.specs.Results.{flagsFit}
 use borrow.Author.Tests.{lt-ltb, le-ltb}
 use Rattle.capi_records.proofs.ControlRecord.flags_fit.Statement.{statement}

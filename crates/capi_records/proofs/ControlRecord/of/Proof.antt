@@ -1,3 +1,4 @@
+-- Made by tools/prove.py; not to be edited.
 use Rattle.capi_records.specs.Results.{recordOf}
 use borrow.Author.Needs.{needs}
 use Rattle.capi_records.proofs.ControlRecord.of.Statement.{statement}
