@@ -1,4 +1,4 @@
-use native.Mathlib.Omega.{arith}
+-- Made by tools/prove.py; not to be edited.
 use Rattle.floating.specs.Operands.{fetchFloating}
 use borrow.Author.Needs.{needs}
 use Rattle.floating.proofs.fetch.Statement.{statement}
@@ -18,7 +18,7 @@ mul-t7 c = search needs
 
 returns : tie.Need-returns
 unfolding fetchFloating
-returns c = (rw (← (c .register-fraction .ensures .0)), c .register-fraction .ensures .1, omega arith, omega arith, omega arith)
+returns c = (rw (← (c .register-fraction .ensures .0)), search needs, search needs, search needs, search needs)
 
 pub fetch-spec : {M : Type 1} → statement M
 fetch-spec = tie.close (tie.spec register-fraction-requires mul-s add-s mul-t7 returns)

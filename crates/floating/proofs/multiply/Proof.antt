@@ -1,3 +1,4 @@
+-- Made by tools/prove.py; not to be edited.
 use Rattle.floating.specs.Multiply.{fm}
 use borrow.Author.Needs.{needs}
 use Rattle.floating.proofs.multiply.Statement.{statement}
@@ -11,7 +12,7 @@ multiply-floating-requires c κs = search needs
 
 returns : tie.Need-returns
 unfolding fm
-returns c = cc
+returns c = rw (← (c .before .fetch .ensures .0), ← (c .multiply-floating .ensures))
 
 pub multiply-spec : {M : Type 1} → statement M
 multiply-spec = tie.close (tie.spec fetch-requires multiply-floating-requires returns)

@@ -1,3 +1,4 @@
+-- Made by tools/prove.py; not to be edited.
 use Rattle.floating.specs.Add.{fs}
 use borrow.Author.Needs.{needs}
 use Rattle.floating.proofs.subtract.Statement.{statement}
@@ -11,7 +12,7 @@ add-floating-requires c κs = search needs
 
 returns : tie.Need-returns
 unfolding fs
-returns c = cc
+returns c = rw (← (c .before .fetch .ensures .0), ← (c .add-floating .ensures))
 
 pub subtract-spec : {M : Type 1} → statement M
 subtract-spec = tie.close (tie.spec fetch-requires add-floating-requires returns)

@@ -1,13 +1,13 @@
+-- Made by tools/prove.py; not to be edited.
 use Rattle.rounding.specs.Convert.{ci}
-use borrow.Author.Tests.{ne-eqb}
-use Rattle.registers.proofs.Tests.{tests}
+use borrow.Author.Tests.{eq-eqb, ne-eqb}
 use borrow.Author.Needs.{needs}
 use Rattle.rounding.proofs.convert_integer.Statement.{statement}
 use Rattle.rounding.proofs.convert_integer.Tie as tie
 
 returns : tie.Need-returns
 unfolding ci
-returns c = search tests
+returns c = rw (eq-eqb _ _ (c .if1 .taken))
 
 signed25-requires : tie.Need-signed25-requires
 signed25-requires c κs = search needs
@@ -38,7 +38,15 @@ store-requires c κs = search needs
 
 returns-2 : tie.Need-returns-2
 unfolding ci
-returns-2 c = rw (ne-eqb _ _ (c .before .before .before .before .if1 .left)) (cc)
+returns-2 c =
+    let b4 = c .before .before .before .before in
+    rw (
+      ne-eqb _ _ (b4 .if1 .left),
+      ← (c .before .before .before .signed25 .ensures),
+      ← (c .before .before .normalize-round .ensures .0),
+      ← (c .before .larger .ensures),
+      ← (c .store .ensures),
+    )
 
 pub convert-integer-spec : {M : Type 1} → statement M
 convert-integer-spec =

@@ -1,3 +1,4 @@
+-- Made by tools/prove.py; not to be edited.
 use Rattle.rounding.specs.Store.{roundStore}
 use borrow.Author.Needs.{needs}
 use Rattle.rounding.proofs.round_store.Statement.{statement}
@@ -14,7 +15,7 @@ precise-store-requires c κs = search needs
 
 returns : tie.Need-returns
 unfolding roundStore
-returns c = cc
+returns c = rw (← (c .before .normalize-round .ensures .0), ← (c .precise-store .ensures))
 
 pub round-store-spec : {M : Type 1} → statement M
 round-store-spec =

@@ -1,3 +1,4 @@
+-- Made by tools/prove.py; not to be edited.
 use Rattle.shift.specs.Shift.{arithmetic}
 use borrow.Author.Tests.{lt-ltb, le-ltb}
 use borrow.Author.Needs.{needs}
@@ -21,11 +22,11 @@ right48-requires c κs = search needs
 
 returns : tie.Need-returns
 unfolding arithmetic
-returns c = (rw (lt-ltb _ _ (c .before .before .if1 .taken)) (cc), search needs)
+returns c = (rw (lt-ltb _ _ (c .before .before .if1 .taken), ← (c .before .count .ensures .0), ← (c .left48 .ensures .0)), search needs)
 
 returns-2 : tie.Need-returns-2
 unfolding arithmetic
-returns-2 c = (rw (le-ltb _ _ (c .before .before .if1 .left)) (cc), search needs)
+returns-2 c = (rw (le-ltb _ _ (c .before .before .if1 .left), ← (c .before .count2 .ensures .0), ← (c .right48 .ensures .0)), search needs)
 
 pub arithmetic48-spec : {M : Type 1} → statement M
 arithmetic48-spec =

@@ -1,3 +1,4 @@
+-- Made by tools/prove.py; not to be edited.
 use Rattle.shift.specs.Shift.{leftStep}
 use borrow.Author.Needs.{needs}
 use Rattle.shift.proofs.left_step48.Statement.{statement}
@@ -17,7 +18,7 @@ larger-requires c κs = search needs
 
 returns : tie.Need-returns
 unfolding leftStep
-returns c = (cc, search needs, search needs)
+returns c = (rw (← (c .larger .ensures)), search needs, search needs)
 
 pub left-step48-spec : {M : Type 1} → statement M
 left-step48-spec = tie.close (tie.spec add-d mul-t4 cast-larger larger-requires returns)

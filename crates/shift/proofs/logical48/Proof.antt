@@ -1,3 +1,4 @@
+-- Made by tools/prove.py; not to be edited.
 use Rattle.shift.specs.Shift.{logical}
 use borrow.Author.Tests.{lt-ltb, le-ltb}
 use borrow.Author.Needs.{needs}
@@ -21,11 +22,11 @@ logical-right48-requires c κs = search needs
 
 returns : tie.Need-returns
 unfolding logical
-returns c = (rw (lt-ltb _ _ (c .before .before .if1 .taken)) (cc), search needs)
+returns c = (rw (lt-ltb _ _ (c .before .before .if1 .taken), ← (c .before .count .ensures .0), ← (c .logical-left48 .ensures .0)), search needs)
 
 returns-2 : tie.Need-returns-2
 unfolding logical
-returns-2 c = (rw (le-ltb _ _ (c .before .before .if1 .left)) (cc), search needs)
+returns-2 c = (rw (le-ltb _ _ (c .before .before .if1 .left), ← (c .before .count2 .ensures .0), ← (c .logical-right48 .ensures .0)), search needs)
 
 pub logical48-spec : {M : Type 1} → statement M
 logical48-spec =

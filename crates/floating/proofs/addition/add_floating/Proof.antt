@@ -1,3 +1,4 @@
+-- Made by tools/prove.py; not to be edited.
 use Rattle.floating.specs.Add.{addFloating}
 use borrow.Author.Needs.{needs}
 use Rattle.floating.proofs.addition.add_floating.Statement.{statement}
@@ -23,7 +24,12 @@ by-difference-requires c κs = search needs
 
 returns : tie.Need-returns
 unfolding addFloating
-returns c = cc
+returns c =
+    rw (
+      ← (c .before .before .signed-exponent .ensures .0),
+      ← (c .before .signed-exponent2 .ensures .0),
+      ← (c .by-difference .ensures),
+    )
 
 pub add-floating-spec : {M : Type 1} → statement M
 add-floating-spec =

@@ -1,3 +1,4 @@
+-- Made by tools/prove.py; not to be edited.
 use Rattle.floating.specs.Add.{faNegligible}
 use borrow.Author.Needs.{needs}
 use Rattle.floating.proofs.addition.negligible.Statement.{statement}
@@ -14,14 +15,20 @@ precise-store-requires c κs = search needs
 
 returns : tie.Need-returns
 unfolding faNegligible
-returns c = rw (c .before .before .before .if1 .taken) (cc)
+returns c =
+    rw (
+      ← (c .before .before .signed-sf .ensures .0),
+      ← (c .before .signed-exponent .ensures .0),
+      ← (c .precise-store .ensures),
+      c .before .before .before .if1 .taken,
+    )
 
 sum-requires : tie.Need-sum-requires
 sum-requires c κs = search needs
 
 returns-2 : tie.Need-returns-2
 unfolding faNegligible
-returns-2 c = rw (c .before .if1 .left) (cc)
+returns-2 c = rw (← (c .sum .ensures), c .before .if1 .left)
 
 pub negligible-spec : {M : Type 1} → statement M
 negligible-spec =

@@ -1,3 +1,4 @@
+-- Made by tools/prove.py; not to be edited.
 use Rattle.floating.specs.Add.{faSum}
 use borrow.Author.Needs.{needs}
 use Rattle.floating.proofs.addition.sum.Statement.{statement}
@@ -17,7 +18,15 @@ round-store-requires c κs = search needs
 
 returns : tie.Need-returns
 unfolding faSum
-returns c = rw (c .before .before .if1 .taken) (cc)
+returns c =
+    let b4 = c .before .before .before .before in
+    rw (
+      ← (b4 .signed-sf .ensures .0),
+      ← (c .before .before .before .signed-exponent .ensures .0),
+      c .before .before .if1 .taken,
+      ← (c .before .add-af .ensures .0),
+      ← (c .round-store .ensures),
+    )
 
 sub-af-requires : tie.Need-sub-af-requires
 sub-af-requires c κs = search needs
@@ -27,7 +36,15 @@ round-store-requires-2 c κs = search needs
 
 returns-2 : tie.Need-returns-2
 unfolding faSum
-returns-2 c = rw (c .before .before .if1 .left) (cc)
+returns-2 c =
+    let b4 = c .before .before .before .before in
+    rw (
+      ← (b4 .signed-sf .ensures .0),
+      ← (c .before .before .before .signed-exponent .ensures .0),
+      c .before .before .if1 .left,
+      ← (c .before .sub-af .ensures .0),
+      ← (c .round-store2 .ensures),
+    )
 
 pub sum-spec : {M : Type 1} → statement M
 sum-spec =

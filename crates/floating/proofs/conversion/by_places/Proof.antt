@@ -1,6 +1,7 @@
-use mathlib.Core.Path.{refl}
+-- Made by tools/prove.py; not to be edited.
+use Rattle.registers.proofs.Tests.{tests}
 use Rattle.floating.specs.Convert.{cfByPlaces}
-use borrow.Author.Tests.{eq-eqb, ne-eqb, lt-ltb, le-ltb, le-leb, lt-leb}
+use borrow.Author.Tests.{eq-eqb, lt-ltb, ne-eqb, le-ltb, lt-leb}
 use borrow.Author.Needs.{needs}
 use Rattle.floating.proofs.conversion.by_places.Statement.{statement}
 use Rattle.floating.proofs.conversion.by_places.Tie as tie
@@ -10,18 +11,18 @@ rounded-requires c κs = search needs
 
 returns : tie.Need-returns
 unfolding cfByPlaces
-returns c = rw (lt-ltb _ _ (c .before .before .if1 .taken), eq-eqb _ _ (c .before .if2 .taken)) (cc)
+returns c = rw (lt-ltb _ _ (c .before .before .if1 .taken), eq-eqb _ _ (c .before .if2 .taken), ← (c .rounded .ensures))
 
 returns-2 : tie.Need-returns-2
 unfolding cfByPlaces
-returns-2 c = rw (lt-ltb _ _ (c .before .if1 .taken), ne-eqb _ _ (c .if2 .left)) refl
+returns-2 c = rw (lt-ltb _ _ (c .before .if1 .taken), ne-eqb _ _ (c .if2 .left))
 
 rounded-requires-2 : tie.Need-rounded-requires-2
 rounded-requires-2 c κs = search needs
 
 returns-3 : tie.Need-returns-3
 unfolding cfByPlaces
-returns-3 c = rw (le-ltb _ _ (c .before .before .if1 .left), le-leb _ _ (c .before .if3 .taken)) (cc)
+returns-3 c = search tests
 
 shift-af-requires : tie.Need-shift-af-requires
 shift-af-requires c κs = search needs
@@ -31,7 +32,13 @@ rounded-requires-3 c κs = search needs
 
 returns-4 : tie.Need-returns-4
 unfolding cfByPlaces
-returns-4 c = rw (le-ltb _ _ (c .before .before .before .if1 .left), lt-leb _ _ (c .before .before .if3 .left)) (cc)
+returns-4 c =
+    rw (
+      le-ltb _ _ (c .before .before .before .if1 .left),
+      lt-leb _ _ (c .before .before .if3 .left),
+      ← (c .before .shift-af .ensures .0),
+      ← (c .rounded3 .ensures),
+    )
 
 pub by-places-spec : {M : Type 1} → statement M
 by-places-spec =

@@ -1,3 +1,4 @@
+-- Made by tools/prove.py; not to be edited.
 use Rattle.floating.specs.Convert.{cf}
 use borrow.Author.Needs.{needs}
 use Rattle.floating.proofs.conversion.convert.Statement.{statement}
@@ -29,7 +30,12 @@ by-places-requires c κs = search needs
 
 returns : tie.Need-returns
 unfolding cf
-returns c = cc
+returns c =
+    rw (
+      ← (c .before .before .signed-byte .ensures .0),
+      ← (c .before .register-fraction .ensures .0),
+      ← (c .by-places .ensures),
+    )
 
 pub convert-spec : {M : Type 1} → statement M
 convert-spec =

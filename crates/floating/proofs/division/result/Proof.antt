@@ -1,4 +1,4 @@
-use native.Mathlib.Omega.{arith}
+-- Made by tools/prove.py; not to be edited.
 use borrow.Author.Needs.{needs}
 use Rattle.floating.proofs.division.result.Statement.{statement}
 use Rattle.floating.proofs.division.result.Tie as tie
@@ -46,7 +46,12 @@ add-t11 : tie.Need-add-t11
 add-t11 c = search needs
 
 returns : tie.Need-returns
-returns c = (cc, omega arith, omega arith)
+returns c = (
+  let b4 = c .before .before .before .before in
+      rw (← (b4 .signed-exponent .ensures .0), ← (c .before .before .before .signed-exponent2 .ensures .0)),
+  search needs,
+  search needs,
+)
 
 pub result-spec : {M : Type 1} → statement M
 result-spec =

@@ -1,4 +1,4 @@
-use native.Mathlib.Omega.{arith}
+-- Made by tools/prove.py; not to be edited.
 use Rattle.floating.specs.Divide.{fdStart}
 use borrow.Author.Tests.{eq-eqb, ne-eqb}
 use borrow.Author.Needs.{needs}
@@ -31,11 +31,11 @@ add-t17 c = search needs
 
 returns : tie.Need-returns
 unfolding fdStart
-returns c = (rw (eq-eqb _ _ (c .before .if1 .taken)) (cc), search needs, search needs, omega arith, search needs)
+returns c = (rw (eq-eqb _ _ (c .before .if1 .taken), ← (c .sub-af .ensures .0)), search needs, search needs, search needs, search needs)
 
 returns-2 : tie.Need-returns-2
 unfolding fdStart
-returns-2 c = (rw (ne-eqb _ _ (c .before .if1 .left)) (cc), search needs, search needs, omega arith, search needs)
+returns-2 c = (rw (ne-eqb _ _ (c .before .if1 .left), ← (c .add-af .ensures .0)), search needs, search needs, search needs, search needs)
 
 pub start-spec : {M : Type 1} → statement M
 start-spec =

@@ -1,3 +1,4 @@
+-- Made by tools/prove.py; not to be edited.
 use Rattle.floating.specs.Multiply.{multiplyFloating}
 use borrow.Author.Needs.{needs}
 use Rattle.floating.proofs.multiplication.multiply_floating.Statement.{statement}
@@ -23,7 +24,15 @@ round-store-requires c κs = search needs
 
 returns : tie.Need-returns
 unfolding multiplyFloating
-returns c = cc
+returns c =
+    let b4 = c .before .before .before .before in
+    rw (
+      ← (b4 .before .signed-exponent .ensures .0),
+      ← (b4 .signed-exponent2 .ensures .0),
+      ← (c .before .before .before .signed-sf .ensures .0),
+      ← (c .before .multiply-loop .ensures .0),
+      ← (c .round-store .ensures),
+    )
 
 pub multiply-floating-spec : {M : Type 1} → statement M
 multiply-floating-spec =
