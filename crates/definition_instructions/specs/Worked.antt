@@ -1,4 +1,4 @@
--- Worked instructions, by computation: document 01's "Likely errors", what stays after a fault, and IO and AW on both devices.
+-- Worked instructions, by computation: document 01's "Likely errors", what stays after a fault, operands and flags, and IO and AW on both devices.
 -- Assumes nothing.
 use Prim.Native.Nat.{ℕ}
 use mathlib.Core.Path.{_≡_, refl}
@@ -7,7 +7,7 @@ use mathlib.Core.List.{List, [], _∷_}
 use Rattle.machine.specs.declared.Control.{Control}
 use Rattle.machine.specs.declared.Fault.the-variants.{Unassigned, Absent, Privileged, Store, Jump}
 use Rattle.definition_instructions.specs.Machine.{computer, Channel, machine, ok, fault, resetSystem}
-use Rattle.definition_instructions.specs.Meaning.{DS, RS, RX, WM, JL, PL, None, IO, AW}
+use Rattle.definition_instructions.specs.Meaning.{HL, DS, RS, RX, WM, WD, CF, JL, JE, JD, PL, None, IO, AW}
 use Rattle.machine.specs.Records.{resetRecord}
 use Rattle.machine.specs.Fields.{inTask, withIC, withIR, withIM, withPending, withPR, withEX, withEnabled, raised, flagsCleared, overflowed, carrySet}
 use Rattle.machine.specs.Store.{word, pair, key, putWord, putKey, byte, withByte, putByte, putLink, absent, forbids, forbidden, violation, firstWord}
@@ -16,6 +16,9 @@ use Rattle.integer.specs.Bitwise.{each, logicalAnd, logicalOr, logicalXor, clea
 use Rattle.integer.specs.Skip.{isHigh, isLow, isEqual, isNotEqual, bitsOne, bitsZero}
 use Rattle.integer.specs.Sums.{sum, difference, sumWithCarry, differenceWithCarry, sum24}
 use Rattle.multiply.specs.Wm.{wmStep, wmLast, wm}
+use Rattle.divide.specs.Wd.{wdStep, wdLoop, abs24, wdSign, wdCorrection, wdEnd, wd}
+use Rattle.floating.specs.Convert.{cfEnd, cfByPlaces, cf}
+use Rattle.floating.specs.Operands.{fetchFloating}
 use Rattle.definition_instructions.specs.Channel.{disconnected, deviceBuffer, readFrom, writeTo, fourLeft, shiftedIn, assembled}
 use Rattle.definition_instructions.specs.Codes.{execute, executeDevice}
 use Rattle.definition_instructions.specs.Meaning.{meaning, commanded, rejection, autoloading, deviceMeaning}
@@ -23,7 +26,7 @@ use Rattle.definition_instructions.specs.MicroOps.{skipped, microStep, m
 
 -- `unfolding opened` unfolds the instructions used here
 unfoldable opened : ℕ
-unfolding inTask withIC withIR withIM withPending withPR withEX withEnabled raised flagsCleared overflowed carrySet word pair key putWord putKey byte withByte putByte putLink absent forbids forbidden violation firstWord iter until each logicalAnd logicalOr logicalXor cleared isHigh isLow isEqual isNotEqual bitsOne bitsZero sum difference sumWithCarry differenceWithCarry sum24 wmStep wmLast wm execute resetSystem meaning skipped microStep microSteps monitorStep monitorSteps executeOperation signedByte resetRecord disconnected deviceBuffer readFrom writeTo fourLeft shiftedIn assembled executeDevice commanded rejection autoloading deviceMeaning deviceStep deviceSteps executeDeviceOperation
+unfolding inTask withIC withIR withIM withPending withPR withEX withEnabled raised flagsCleared overflowed carrySet word pair key putWord putKey byte withByte putByte putLink absent forbids forbidden violation firstWord iter until each logicalAnd logicalOr logicalXor cleared isHigh isLow isEqual isNotEqual bitsOne bitsZero sum difference sumWithCarry differenceWithCarry sum24 wmStep wmLast wm wdStep wdLoop abs24 wdSign wdCorrection wdEnd wd cfEnd cfByPlaces cf fetchFloating execute resetSystem meaning skipped microStep microSteps monitorStep monitorSteps executeOperation signedByte resetRecord disconnected deviceBuffer readFrom writeTo fourLeft shiftedIn assembled executeDevice commanded rejection autoloading deviceMeaning deviceStep deviceSteps executeDeviceOperation
 opened = 0
 
 -- task mode, EX given, key 7 forbidden
@@ -90,6 +93,37 @@ pl-task = refl
 no-code : execute None 0 9 (16777217 ∷ []) (task 0) ≡ fault Unassigned (computer (16777217 ∷ []) (task 0))
 unfolding opened
 no-code = refl
+
+-- HL w1 9: the byte goes into the right half of W1, and the left half stays
+hl-right-half : execute HL 1 9 (1 ∷ 20487 ∷ 3 ∷ 4 ∷ 12297 ∷ []) (task 0) ≡ ok (computer (1 ∷ 20489 ∷ 3 ∷ 4 ∷ 12297 ∷ []) (task 0))
+unfolding opened
+hl-right-half = refl
+
+-- WD of the pair W0, W1 = 0, 7 by 2: the quotient in W1, the remainder in W0
+wd-pair : execute WD 1 4 (0 ∷ 7 ∷ 2 ∷ []) (task 0) ≡ ok (computer (1 ∷ 3 ∷ 2 ∷ []) (task 0))
+unfolding opened
+wd-pair = refl
+
+-- CF of 2 ** 23: an integer overflow, IR(1) and EX(22), and W is kept
+cf-overflow :
+    execute CF 1 0 (4194304 ∷ 24 ∷ []) (task 0)
+    ≡ ok
+    (computer
+    (4194304 ∷ 24 ∷ [])
+    (record { ic = 16; ir = 4194304; im = 0; pending = 0; pr = 129; ex = 2; monitor = false; enabled = false; reset = false }))
+unfolding opened
+cf-overflow = refl
+
+-- in monitor mode, IC and interrupts enabled given
+abbrev interrupts : ℕ → Bool → Control
+interrupts ic e = record { ic = ic; ir = 0; im = 0; pending = 0; pr = 129; ex = 0; monitor = true; enabled = e; reset = false }
+
+-- JE enables interrupts, JD disables them; bit 23 of the address is dropped
+je-jd :
+    (execute JE 0 3 (1 ∷ 2 ∷ []) (interrupts 16 false) ≡ ok (computer (1 ∷ 2 ∷ []) (interrupts 2 true)))
+    × (execute JD 0 3 (1 ∷ 2 ∷ []) (interrupts 16 true) ≡ ok (computer (1 ∷ 2 ∷ []) (interrupts 2 false)))
+unfolding opened
+je-jd = (refl, refl)
 
 -- ---- IO
 
