@@ -17,7 +17,13 @@ same-length c = search needs
 
 returns : tie.Need-returns
 unfolding loadCall
-returns c = let e = c .before .before .before .load .ensures in rw (← (c .before .before .before .before .before .control .ensures), ← (e .0), ← (e .1), ← (c .state-result .ensures))
+returns c = let b4 = c .before .before .before .before in
+    let e = c .before .before .before .load .ensures in rw (
+      ← (b4 .before .control .ensures),
+      ← (e .0),
+      ← (e .1),
+      ← (c .state-result .ensures),
+    )
 
 pub rc4000-load-spec : {M : Type 1} → statement M
 rc4000-load-spec =

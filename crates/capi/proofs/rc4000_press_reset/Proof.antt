@@ -29,7 +29,15 @@ same-length c = search needs
 
 returns : tie.Need-returns
 unfolding resetCall
-returns c = rw (← (c .before .before .before .before .before .before .before .before .judge-flags .ensures), c .before .before .before .before .before .before .enum-told .given .1, ← (c .before .before .before .before .before .control .ensures), ← (c .before .before .before .press-reset .ensures), ← (c .state-result .ensures))
+returns c = let b4 = c .before .before .before .before in
+    let b8 = b4 .before .before .before .before in
+    rw (
+      ← (b8 .judge-flags .ensures),
+      b4 .before .before .enum-told .given .1,
+      ← (b4 .before .control .ensures),
+      ← (c .before .before .before .press-reset .ensures),
+      ← (c .state-result .ensures),
+    )
 
 same-length-2 : tie.Need-same-length-2
 same-length-2 c = search needs

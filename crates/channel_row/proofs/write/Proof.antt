@@ -17,9 +17,11 @@ same-length c = search needs
 
 returns-2 : tie.Need-returns-2
 unfolding writeTo
-returns-2 c =
-    let b4 = c .before .before .before .before in
-    (rw (ne-eqb _ _ (b4 .before .if1 .left), ← (c .before .before .type-character .ensures .0)), search needs)
+returns-2 c = (
+  let b4 = c .before .before .before .before in
+      rw (ne-eqb _ _ (b4 .before .if1 .left), ← (c .before .before .type-character .ensures .0)),
+  search needs,
+)
 
 pub write-spec : {M : Type 1} → statement M
 write-spec = tie.close (tie.spec returns type-character-requires same-length returns-2)

@@ -25,7 +25,17 @@ same-length c = search needs
 
 returns : tie.Need-returns
 unfolding cycle
-returns c = (rw (← (c .before .before .before .before .before .before .before .before .line-of .ensures .0), lt-ltb _ _ (c .before .before .before .before .before .before .before .if1 .taken), ← (c .before .before .before .before .before .clear-line .ensures .0), ← (c .before .before .enter .ensures .0)), (search needs, search needs))
+returns c = (
+  let b4 = c .before .before .before .before in
+      let b8 = b4 .before .before .before .before in
+      rw (
+        ← (b8 .line-of .ensures .0),
+        lt-ltb _ _ (b4 .before .before .before .if1 .taken),
+        ← (b4 .before .clear-line .ensures .0),
+        ← (c .before .before .enter .ensures .0),
+      ),
+  (search needs, search needs),
+)
 
 fetch-requires : tie.Need-fetch-requires
 fetch-requires c κs = search needs
@@ -49,7 +59,13 @@ same-length-3 : tie.Need-same-length-3
 same-length-3 c = search needs
 
 returns-2 : tie.Need-returns-2
-returns-2 c = (rw (c .enum-told .given .1) at (cycle-fetch _ _ _ _ _ (c .before .before .before .before .before .before .before .before .before .before .before .before .line-of .ensures .0) (c .before .before .before .before .before .before .before .before .before .before .before .if1 .left) (c .before .before .before .before .before .before .fetch .ensures .0)), (search needs, search needs))
+returns-2 c = (
+  let b4 = c .before .before .before .before in
+      let b8 = b4 .before .before .before .before in
+      let b12 = b8 .before .before .before .before in
+      rw (c .enum-told .given .1) at (cycle-fetch _ _ _ _ _ (b12 .line-of .ensures .0) (b8 .before .before .before .if1 .left) (b4 .before .before .fetch .ensures .0)),
+  (search needs, search needs),
+)
 
 same-length-4 : tie.Need-same-length-4
 same-length-4 c = search needs
@@ -58,7 +74,13 @@ same-length-5 : tie.Need-same-length-5
 same-length-5 c = search needs
 
 returns-3 : tie.Need-returns-3
-returns-3 c = (rw (c .enum-told2 .given .1) at (cycle-fetch _ _ _ _ _ (c .before .before .before .before .before .before .before .before .before .before .before .before .line-of .ensures .0) (c .before .before .before .before .before .before .before .before .before .before .before .if1 .left) (c .before .before .before .before .before .before .fetch .ensures .0)), (search needs, search needs))
+returns-3 c = (
+  let b4 = c .before .before .before .before in
+      let b8 = b4 .before .before .before .before in
+      let b12 = b8 .before .before .before .before in
+      rw (c .enum-told2 .given .1) at (cycle-fetch _ _ _ _ _ (b12 .line-of .ensures .0) (b8 .before .before .before .if1 .left) (b4 .before .before .fetch .ensures .0)),
+  (search needs, search needs),
+)
 
 same-length-6 : tie.Need-same-length-6
 same-length-6 c = search needs
@@ -67,7 +89,14 @@ same-length-7 : tie.Need-same-length-7
 same-length-7 c = search needs
 
 returns-4 : tie.Need-returns-4
-returns-4 c = (entered-with (c .before .before .enter2 .ensures .0) (rw (c .before .before .before .before .before .enum-told3 .given .1) at (cycle-fetch _ _ _ _ _ (c .before .before .before .before .before .before .before .before .before .before .before .before .before .before .before .before .before .line-of .ensures .0) (c .before .before .before .before .before .before .before .before .before .before .before .before .before .before .before .before .if1 .left) (c .before .before .before .before .before .before .before .before .before .before .before .fetch .ensures .0))), (search needs, search needs))
+returns-4 c = (
+  let b4 = c .before .before .before .before in
+      let b8 = b4 .before .before .before .before in
+      let b12 = b8 .before .before .before .before in
+      let b16 = b12 .before .before .before .before in
+      entered-with (c .before .before .enter2 .ensures .0) (rw (b4 .before .enum-told3 .given .1) at (cycle-fetch _ _ _ _ _ (b16 .before .line-of .ensures .0) (b16 .if1 .left) (b8 .before .before .before .fetch .ensures .0))),
+  (search needs, search needs),
+)
 
 pub cycle-spec : {M : Type 1} → statement M
 cycle-spec =

@@ -27,7 +27,18 @@ same-length-3 c = search needs
 
 returns-2 : tie.Need-returns-2
 unfolding executeInstruction
-returns-2 c = (rw (← (c .before .before .before .before .before .before .before .before .before .before .before .before .effective-address .ensures .0), ← (c .before .before .before .before .before .before .before .before .before .before .is-indirect-absent .ensures), c .before .before .before .before .before .before .before .before .before .if1 .left, ← (c .before .before .before .before .execute .ensures .0)), (search needs, search needs))
+returns-2 c = (
+  let b4 = c .before .before .before .before in
+      let b8 = b4 .before .before .before .before in
+      let b12 = b8 .before .before .before .before in
+      rw (
+        ← (b12 .effective-address .ensures .0),
+        ← (b8 .before .before .is-indirect-absent .ensures),
+        b8 .before .if1 .left,
+        ← (b4 .execute .ensures .0),
+      ),
+  (search needs, search needs),
+)
 
 pub execute-instruction-spec : {M : Type 1} → statement M
 execute-instruction-spec =

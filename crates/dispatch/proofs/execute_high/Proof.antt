@@ -88,182 +88,286 @@ same-length c = search needs
 
 returns : tie.Need-returns
 unfolding executeCode lookup codes
-returns c = (λ h. rw (c .before .before .before .before .before .match .keys1) (with-channel _ _ _ _ _ h _ (c .before .before .ci .ensures .0)), c .before .before .ci .ensures .1)
+returns c = (
+  let b4 = c .before .before .before .before in
+      λ h. rw (b4 .before .match .keys1) (with-channel _ _ _ _ _ h _ (c .before .before .ci .ensures .0)),
+  c .before .before .ci .ensures .1,
+)
 
 same-length-2 : tie.Need-same-length-2
 same-length-2 c = search needs
 
 returns-2 : tie.Need-returns-2
 unfolding executeCode lookup codes
-returns-2 c = (λ h. rw (c .before .before .before .before .before .match .keys2) (with-channel _ _ _ _ _ h _ (c .before .before .ac .ensures .0)), c .before .before .ac .ensures .1)
+returns-2 c = (
+  let b4 = c .before .before .before .before in
+      λ h. rw (b4 .before .match .keys2) (with-channel _ _ _ _ _ h _ (c .before .before .ac .ensures .0)),
+  c .before .before .ac .ensures .1,
+)
 
 same-length-3 : tie.Need-same-length-3
 same-length-3 c = search needs
 
 returns-3 : tie.Need-returns-3
 unfolding executeCode lookup codes
-returns-3 c = (λ h. rw (c .before .before .before .before .before .match .keys3) (with-channel _ _ _ _ _ h _ (c .before .before .ns .ensures .0)), c .before .before .ns .ensures .1)
+returns-3 c = (
+  let b4 = c .before .before .before .before in
+      λ h. rw (b4 .before .match .keys3) (with-channel _ _ _ _ _ h _ (c .before .before .ns .ensures .0)),
+  c .before .before .ns .ensures .1,
+)
 
 same-length-4 : tie.Need-same-length-4
 same-length-4 c = search needs
 
 returns-4 : tie.Need-returns-4
 unfolding executeCode lookup codes
-returns-4 c = (λ h. rw (c .before .before .before .before .before .match .keys4) (with-channel _ _ _ _ _ h _ (c .before .before .nd .ensures .0)), c .before .before .nd .ensures .1)
+returns-4 c = (
+  let b4 = c .before .before .before .before in
+      λ h. rw (b4 .before .match .keys4) (with-channel _ _ _ _ _ h _ (c .before .before .nd .ensures .0)),
+  c .before .before .nd .ensures .1,
+)
 
 same-length-5 : tie.Need-same-length-5
 same-length-5 c = search needs
 
 returns-5 : tie.Need-returns-5
 unfolding executeCode lookup codes
-returns-5 c = (λ h. rw (c .before .before .before .before .before .match .keys5) (with-channel _ _ _ _ _ h _ (c .before .before .shift-as .ensures .0)), c .before .before .shift-as .ensures .1)
+returns-5 c = (
+  let b4 = c .before .before .before .before in
+      λ h. rw (b4 .before .match .keys5) (with-channel _ _ _ _ _ h _ (c .before .before .shift-as .ensures .0)),
+  c .before .before .shift-as .ensures .1,
+)
 
 same-length-6 : tie.Need-same-length-6
 same-length-6 c = search needs
 
 returns-6 : tie.Need-returns-6
 unfolding executeCode lookup codes
-returns-6 c = (λ h. rw (c .before .before .before .before .before .match .keys6) (with-channel _ _ _ _ _ h _ (c .before .before .ad .ensures .0)), c .before .before .ad .ensures .1)
+returns-6 c = (
+  let b4 = c .before .before .before .before in
+      λ h. rw (b4 .before .match .keys6) (with-channel _ _ _ _ _ h _ (c .before .before .ad .ensures .0)),
+  c .before .before .ad .ensures .1,
+)
 
 same-length-7 : tie.Need-same-length-7
 same-length-7 c = search needs
 
 returns-7 : tie.Need-returns-7
 unfolding executeCode lookup codes
-returns-7 c = (λ h. rw (c .before .before .before .before .before .match .keys7) (with-channel _ _ _ _ _ h _ (c .before .before .ls .ensures .0)), c .before .before .ls .ensures .1)
+returns-7 c = (
+  let b4 = c .before .before .before .before in
+      λ h. rw (b4 .before .match .keys7) (with-channel _ _ _ _ _ h _ (c .before .before .ls .ensures .0)),
+  c .before .before .ls .ensures .1,
+)
 
 same-length-8 : tie.Need-same-length-8
 same-length-8 c = search needs
 
 returns-8 : tie.Need-returns-8
 unfolding executeCode lookup codes
-returns-8 c = (λ h. rw (c .before .before .before .before .before .match .keys8) (with-channel _ _ _ _ _ h _ (c .before .before .ld .ensures .0)), c .before .before .ld .ensures .1)
+returns-8 c = (
+  let b4 = c .before .before .before .before in
+      λ h. rw (b4 .before .match .keys8) (with-channel _ _ _ _ _ h _ (c .before .before .ld .ensures .0)),
+  c .before .before .ld .ensures .1,
+)
 
 same-length-9 : tie.Need-same-length-9
 same-length-9 c = search needs
 
 returns-9 : tie.Need-returns-9
 unfolding executeCode lookup codes
-returns-9 c = (λ h. rw (c .before .before .before .before .before .match .keys9) (with-channel _ _ _ _ _ h _ (c .before .before .sh .ensures .0)), c .before .before .sh .ensures .1)
+returns-9 c = (
+  let b4 = c .before .before .before .before in
+      λ h. rw (b4 .before .match .keys9) (with-channel _ _ _ _ _ h _ (c .before .before .sh .ensures .0)),
+  c .before .before .sh .ensures .1,
+)
 
 same-length-10 : tie.Need-same-length-10
 same-length-10 c = search needs
 
 returns-10 : tie.Need-returns-10
 unfolding executeCode lookup codes
-returns-10 c = (λ h. rw (c .before .before .before .before .before .match .keys10) (with-channel _ _ _ _ _ h _ (c .before .before .sl .ensures .0)), c .before .before .sl .ensures .1)
+returns-10 c = (
+  let b4 = c .before .before .before .before in
+      λ h. rw (b4 .before .match .keys10) (with-channel _ _ _ _ _ h _ (c .before .before .sl .ensures .0)),
+  c .before .before .sl .ensures .1,
+)
 
 same-length-11 : tie.Need-same-length-11
 same-length-11 c = search needs
 
 returns-11 : tie.Need-returns-11
 unfolding executeCode lookup codes
-returns-11 c = (λ h. rw (c .before .before .before .before .before .match .keys11) (with-channel _ _ _ _ _ h _ (c .before .before .se .ensures .0)), c .before .before .se .ensures .1)
+returns-11 c = (
+  let b4 = c .before .before .before .before in
+      λ h. rw (b4 .before .match .keys11) (with-channel _ _ _ _ _ h _ (c .before .before .se .ensures .0)),
+  c .before .before .se .ensures .1,
+)
 
 same-length-12 : tie.Need-same-length-12
 same-length-12 c = search needs
 
 returns-12 : tie.Need-returns-12
 unfolding executeCode lookup codes
-returns-12 c = (λ h. rw (c .before .before .before .before .before .match .keys12) (with-channel _ _ _ _ _ h _ (c .before .before .sn .ensures .0)), c .before .before .sn .ensures .1)
+returns-12 c = (
+  let b4 = c .before .before .before .before in
+      λ h. rw (b4 .before .match .keys12) (with-channel _ _ _ _ _ h _ (c .before .before .sn .ensures .0)),
+  c .before .before .sn .ensures .1,
+)
 
 same-length-13 : tie.Need-same-length-13
 same-length-13 c = search needs
 
 returns-13 : tie.Need-returns-13
 unfolding executeCode lookup codes
-returns-13 c = (λ h. rw (c .before .before .before .before .before .match .keys13) (with-channel _ _ _ _ _ h _ (c .before .before .so .ensures .0)), c .before .before .so .ensures .1)
+returns-13 c = (
+  let b4 = c .before .before .before .before in
+      λ h. rw (b4 .before .match .keys13) (with-channel _ _ _ _ _ h _ (c .before .before .so .ensures .0)),
+  c .before .before .so .ensures .1,
+)
 
 same-length-14 : tie.Need-same-length-14
 same-length-14 c = search needs
 
 returns-14 : tie.Need-returns-14
 unfolding executeCode lookup codes
-returns-14 c = (λ h. rw (c .before .before .before .before .before .match .keys14) (with-channel _ _ _ _ _ h _ (c .before .before .sz .ensures .0)), c .before .before .sz .ensures .1)
+returns-14 c = (
+  let b4 = c .before .before .before .before in
+      λ h. rw (b4 .before .match .keys14) (with-channel _ _ _ _ _ h _ (c .before .before .sz .ensures .0)),
+  c .before .before .sz .ensures .1,
+)
 
 same-length-15 : tie.Need-same-length-15
 same-length-15 c = search needs
 
 returns-15 : tie.Need-returns-15
 unfolding executeCode lookup codes
-returns-15 c = (λ h. rw (c .before .before .before .before .before .match .keys15) (with-channel _ _ _ _ _ h _ (c .before .before .sx .ensures .0)), c .before .before .sx .ensures .1)
+returns-15 c = (
+  let b4 = c .before .before .before .before in
+      λ h. rw (b4 .before .match .keys15) (with-channel _ _ _ _ _ h _ (c .before .before .sx .ensures .0)),
+  c .before .before .sx .ensures .1,
+)
 
 same-length-16 : tie.Need-same-length-16
 same-length-16 c = search needs
 
 returns-16 : tie.Need-returns-16
 unfolding executeCode lookup codes
-returns-16 c = (λ h. rw (c .before .before .before .before .before .match .keys16) (with-channel _ _ _ _ _ h _ (c .before .before .ic .ensures .0)), c .before .before .ic .ensures .1)
+returns-16 c = (
+  let b4 = c .before .before .before .before in
+      λ h. rw (b4 .before .match .keys16) (with-channel _ _ _ _ _ h _ (c .before .before .ic .ensures .0)),
+  c .before .before .ic .ensures .1,
+)
 
 same-length-17 : tie.Need-same-length-17
 same-length-17 c = search needs
 
 returns-17 : tie.Need-returns-17
 unfolding executeCode lookup codes
-returns-17 c = (λ h. rw (c .before .before .before .before .before .match .keys17) (with-channel _ _ _ _ _ h _ (c .before .before .fa .ensures .0)), c .before .before .fa .ensures .1)
+returns-17 c = (
+  let b4 = c .before .before .before .before in
+      λ h. rw (b4 .before .match .keys17) (with-channel _ _ _ _ _ h _ (c .before .before .fa .ensures .0)),
+  c .before .before .fa .ensures .1,
+)
 
 same-length-18 : tie.Need-same-length-18
 same-length-18 c = search needs
 
 returns-18 : tie.Need-returns-18
 unfolding executeCode lookup codes
-returns-18 c = (λ h. rw (c .before .before .before .before .before .match .keys18) (with-channel _ _ _ _ _ h _ (c .before .before .fs .ensures .0)), c .before .before .fs .ensures .1)
+returns-18 c = (
+  let b4 = c .before .before .before .before in
+      λ h. rw (b4 .before .match .keys18) (with-channel _ _ _ _ _ h _ (c .before .before .fs .ensures .0)),
+  c .before .before .fs .ensures .1,
+)
 
 same-length-19 : tie.Need-same-length-19
 same-length-19 c = search needs
 
 returns-19 : tie.Need-returns-19
 unfolding executeCode lookup codes
-returns-19 c = (λ h. rw (c .before .before .before .before .before .match .keys19) (with-channel _ _ _ _ _ h _ (c .before .before .fm .ensures .0)), c .before .before .fm .ensures .1)
+returns-19 c = (
+  let b4 = c .before .before .before .before in
+      λ h. rw (b4 .before .match .keys19) (with-channel _ _ _ _ _ h _ (c .before .before .fm .ensures .0)),
+  c .before .before .fm .ensures .1,
+)
 
 same-length-20 : tie.Need-same-length-20
 same-length-20 c = search needs
 
 returns-20 : tie.Need-returns-20
 unfolding executeCode lookup codes
-returns-20 c = (λ h. rw (c .before .before .before .before .before .match .keys20) (with-channel _ _ _ _ _ h _ (c .before .before .ks .ensures .0)), c .before .before .ks .ensures .1)
+returns-20 c = (
+  let b4 = c .before .before .before .before in
+      λ h. rw (b4 .before .match .keys20) (with-channel _ _ _ _ _ h _ (c .before .before .ks .ensures .0)),
+  c .before .before .ks .ensures .1,
+)
 
 same-length-21 : tie.Need-same-length-21
 same-length-21 c = search needs
 
 returns-21 : tie.Need-returns-21
 unfolding executeCode lookup codes
-returns-21 c = (λ h. rw (c .before .before .before .before .before .match .keys21) (with-channel _ _ _ _ _ h _ (c .before .before .fd .ensures .0)), c .before .before .fd .ensures .1)
+returns-21 c = (
+  let b4 = c .before .before .before .before in
+      λ h. rw (b4 .before .match .keys21) (with-channel _ _ _ _ _ h _ (c .before .before .fd .ensures .0)),
+  c .before .before .fd .ensures .1,
+)
 
 same-length-22 : tie.Need-same-length-22
 same-length-22 c = search needs
 
 returns-22 : tie.Need-returns-22
 unfolding executeCode lookup codes
-returns-22 c = (λ h. rw (c .before .before .before .before .before .match .keys22) (with-channel _ _ _ _ _ h _ (c .before .before .cf .ensures .0)), c .before .before .cf .ensures .1)
+returns-22 c = (
+  let b4 = c .before .before .before .before in
+      λ h. rw (b4 .before .match .keys22) (with-channel _ _ _ _ _ h _ (c .before .before .cf .ensures .0)),
+  c .before .before .cf .ensures .1,
+)
 
 same-length-23 : tie.Need-same-length-23
 same-length-23 c = search needs
 
 returns-23 : tie.Need-returns-23
 unfolding executeCode lookup codes
-returns-23 c = (λ h. rw (c .before .before .before .before .before .match .keys23) (with-channel _ _ _ _ _ h _ (c .before .before .dl .ensures .0)), c .before .before .dl .ensures .1)
+returns-23 c = (
+  let b4 = c .before .before .before .before in
+      λ h. rw (b4 .before .match .keys23) (with-channel _ _ _ _ _ h _ (c .before .before .dl .ensures .0)),
+  c .before .before .dl .ensures .1,
+)
 
 same-length-24 : tie.Need-same-length-24
 same-length-24 c = search needs
 
 returns-24 : tie.Need-returns-24
 unfolding executeCode lookup codes
-returns-24 c = (λ h. rw (c .before .before .before .before .before .match .keys24) (with-channel _ _ _ _ _ h _ (c .before .before .ds .ensures .0)), c .before .before .ds .ensures .1)
+returns-24 c = (
+  let b4 = c .before .before .before .before in
+      λ h. rw (b4 .before .match .keys24) (with-channel _ _ _ _ _ h _ (c .before .before .ds .ensures .0)),
+  c .before .before .ds .ensures .1,
+)
 
 same-length-25 : tie.Need-same-length-25
 same-length-25 c = search needs
 
 returns-25 : tie.Need-returns-25
 unfolding executeCode lookup codes
-returns-25 c = (λ h. rw (c .before .before .before .before .before .match .keys25) (with-channel _ _ _ _ _ h _ (c .before .before .aa .ensures .0)), c .before .before .aa .ensures .1)
+returns-25 c = (
+  let b4 = c .before .before .before .before in
+      λ h. rw (b4 .before .match .keys25) (with-channel _ _ _ _ _ h _ (c .before .before .aa .ensures .0)),
+  c .before .before .aa .ensures .1,
+)
 
 same-length-26 : tie.Need-same-length-26
 same-length-26 c = search needs
 
 returns-26 : tie.Need-returns-26
 unfolding executeCode lookup codes
-returns-26 c = (λ h. rw (c .before .before .before .before .before .match .keys26) (with-channel _ _ _ _ _ h _ (c .before .before .ss .ensures .0)), c .before .before .ss .ensures .1)
+returns-26 c = (
+  let b4 = c .before .before .before .before in
+      λ h. rw (b4 .before .match .keys26) (with-channel _ _ _ _ _ h _ (c .before .before .ss .ensures .0)),
+  c .before .before .ss .ensures .1,
+)
 
 returns-27 : tie.Need-returns-27
 returns-27 c =

@@ -14,7 +14,8 @@ cell-at-requires : tie.Need-cell-at-requires
 cell-at-requires c κs = search needs
 
 returns : tie.Need-returns
-returns c = rw (c .cell-at .ensures) (cell-fetched _ _ _ (c .before .before .before .before .pre .0) (c .before .before .before .before .pre .1) (c .before .before .rotated .ensures) (c .before .if1 .taken))
+returns c = let b4 = c .before .before .before .before in
+    rw (c .cell-at .ensures) (cell-fetched _ _ _ (b4 .pre .0) (b4 .pre .1) (c .before .before .rotated .ensures) (c .before .if1 .taken))
 
 byte-at-requires : tie.Need-byte-at-requires
 byte-at-requires c κs = search needs

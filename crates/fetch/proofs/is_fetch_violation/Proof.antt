@@ -20,7 +20,11 @@ set-monitor-requires : tie.Need-set-monitor-requires
 set-monitor-requires c κs = search needs
 
 returns-3 : tie.Need-returns-3
-returns-3 c = let m = mode-changed _ _ (sym (c .before .before .before .before .before .before .keeps-mode .ensures) ∙ c .before .before .before .before .before .if1 .left) (sym (c .before .before .before .is-task .ensures) ∙ c .before .before .if2 .left) in (m .0, (c .set-monitor .ensures .0 ∙ m .1, c .set-monitor .ensures .1))
+returns-3 c = let b4 = c .before .before .before .before in
+    let m = mode-changed _ _ (sym (b4 .before .before .keeps-mode .ensures) ∙ b4 .before .if1 .left) (sym (c .before .before .before .is-task .ensures) ∙ c .before .before .if2 .left) in (
+      m .0,
+      (c .set-monitor .ensures .0 ∙ m .1, c .set-monitor .ensures .1),
+    )
 
 pub is-fetch-violation-spec : {M : Type 1} → statement M
 is-fetch-violation-spec =

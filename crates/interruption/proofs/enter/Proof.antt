@@ -36,7 +36,23 @@ same-length c = search needs
 
 returns : tie.Need-returns
 unfolding enter
-returns c = (rw (← (c .before .before .before .before .before .before .before .before .before .before .before .before .before .before .before .before .before .before .put-word .ensures), ← (rw (c .before .before .before .before .before .before .before .before .before .before .before .before .before .before .ic .ensures) at (c .before .before .before .before .before .before .before .before .before .before .before .before .put-word2 .ensures)), ← (c .before .before .before .before .before .before .before .before .word-at .ensures .0), ← (entry-fields _ _ (c .before .before .before .before .before .before .before .before .word-at .ensures .1)), ← (c .before .before .before .before .before .before .set-ic .ensures .0), ← (c .before .before .before .before .set-pending .ensures .0), ← (c .before .before .set-monitor .ensures .0), ← (c .set-enabled .ensures .0)), search needs)
+returns c = (
+  let b4 = c .before .before .before .before in
+      let b8 = b4 .before .before .before .before in
+      let b12 = b8 .before .before .before .before in
+      let b16 = b12 .before .before .before .before in
+      rw (
+        ← (b16 .before .before .put-word .ensures),
+        ← (rw (b12 .before .before .ic .ensures) at (b12 .put-word2 .ensures)),
+        ← (b8 .word-at .ensures .0),
+        ← (entry-fields _ _ (b8 .word-at .ensures .1)),
+        ← (b4 .before .before .set-ic .ensures .0),
+        ← (b4 .set-pending .ensures .0),
+        ← (c .before .before .set-monitor .ensures .0),
+        ← (c .set-enabled .ensures .0),
+      ),
+  search needs,
+)
 
 pub enter-spec : {M : Type 1} → statement M
 enter-spec =

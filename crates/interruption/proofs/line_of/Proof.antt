@@ -23,10 +23,18 @@ first-request-requires : tie.Need-first-request-requires
 first-request-requires c κs = search needs
 
 returns-2 : tie.Need-returns-2
-returns-2 c = (line-first _ _ _ _ (c .before .before .before .before .before .ir .ensures) (c .before .before .before .before .im .ensures) (sym (c .before .before .before .before .before .before .before .is-enabled .ensures) ∙ c .before .before .before .before .before .before .if1 .taken) (sym (c .before .before .pending .ensures) ∙ c .before .if3 .taken) (c .first-request .ensures .0), search needs)
+returns-2 c = (
+  let b4 = c .before .before .before .before in
+      line-first _ _ _ _ (b4 .before .ir .ensures) (b4 .im .ensures) (sym (b4 .before .before .before .is-enabled .ensures) ∙ b4 .before .before .if1 .taken) (sym (c .before .before .pending .ensures) ∙ c .before .if3 .taken) (c .first-request .ensures .0),
+  search needs,
+)
 
 returns-3 : tie.Need-returns-3
-returns-3 c = (line-pending _ (sym (c .before .before .before .before .before .before .is-enabled .ensures) ∙ c .before .before .before .before .before .if1 .taken) (λ e. c .if3 .left (c .before .pending .ensures ∙ e)), search needs)
+returns-3 c = (
+  let b4 = c .before .before .before .before in
+      line-pending _ (sym (b4 .before .before .is-enabled .ensures) ∙ b4 .before .if1 .taken) (λ e. c .if3 .left (c .before .pending .ensures ∙ e)),
+  search needs,
+)
 
 returns-4 : tie.Need-returns-4
 returns-4 c = (line-disabled _ (sym (c .before .is-enabled .ensures) ∙ c .if1 .left), search needs)

@@ -7,13 +7,15 @@ use Rattle.panel_keys.proofs.autoload_key.Tie as tie
 
 autoload-requires : tie.Need-autoload-requires
 unfolding fourLeft
-autoload-requires c κs = let pre = c .before .before .before .before .before .before .pre in (pre .0, pre .1, pre .2, le-leb _ _ (c .before .if2 .taken))
+autoload-requires c κs = let b4 = c .before .before .before .before in
+    let pre = b4 .before .before .pre in (pre .0, pre .1, pre .2, le-leb _ _ (c .before .if2 .taken))
 
 same-length : tie.Need-same-length
 same-length c = search needs
 
 returns : tie.Need-returns
-returns c = key-in-reset _ _ _ _ _ _ (c .before .before .before .before .before .if1 .taken) (c .before .before .before .before .if2 .taken) (c .before .before .autoload .ensures)
+returns c = let b4 = c .before .before .before .before in
+    key-in-reset _ _ _ _ _ _ (b4 .before .if1 .taken) (b4 .if2 .taken) (c .before .before .autoload .ensures)
 
 returns-2 : tie.Need-returns-2
 returns-2 c = key-short _ _ _ _ _ (c .if2 .left)

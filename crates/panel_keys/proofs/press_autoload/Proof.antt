@@ -14,7 +14,8 @@ slice-aggregate-autoload-key : tie.Need-slice-aggregate-autoload-key
 slice-aggregate-autoload-key c = search needs
 
 autoload-key-requires : tie.Need-autoload-key-requires
-autoload-key-requires c κs = fits-a-key _ _ _ _ (sym (c .before .before .enum-told .given .1) ∙ c .before .before .before .before .judge-autoload .ensures)
+autoload-key-requires c κs = let b4 = c .before .before .before .before in
+    fits-a-key _ _ _ _ (sym (c .before .before .enum-told .given .1) ∙ b4 .judge-autoload .ensures)
 
 enum-known-v : tie.Need-enum-known-v
 enum-known-v c = search needs
@@ -23,7 +24,8 @@ same-length : tie.Need-same-length
 same-length c = search needs
 
 returns : tie.Need-returns
-returns c = key-accepted _ _ _ _ _ (sym (c .before .before .before .before .before .enum-told .given .1) ∙ c .before .before .before .before .before .before .before .judge-autoload .ensures) (c .before .before .autoload-key .ensures)
+returns c = let b4 = c .before .before .before .before in
+    key-accepted _ _ _ _ _ (sym (b4 .before .enum-told .given .1) ∙ b4 .before .before .before .judge-autoload .ensures) (c .before .before .autoload-key .ensures)
 
 same-length-2 : tie.Need-same-length-2
 same-length-2 c = search needs

@@ -20,7 +20,8 @@ same-length c = search needs
 
 returns : tie.Need-returns
 unfolding pressingReset
-returns c = rw (← (c .before .before .before .before .before .before .judge-machine .ensures), c .before .before .before .before .enum-told .given .1, ← (c .before .before .reset-key .ensures))
+returns c = let b4 = c .before .before .before .before in
+    rw (← (b4 .before .before .judge-machine .ensures), b4 .enum-told .given .1, ← (c .before .before .reset-key .ensures))
 
 same-length-2 : tie.Need-same-length-2
 same-length-2 c = search needs

@@ -11,10 +11,12 @@ enum-told : tie.Need-enum-told
 enum-told c = search needs
 
 run-requires : tie.Need-run-requires
-run-requires c κs = fits-unraised _ _ _ _ _ _ (sym (c .before .before .before .enum-told .given .1) ∙ c .before .before .before .before .before .judge-run .ensures)
+run-requires c κs = let b4 = c .before .before .before .before in
+    fits-unraised _ _ _ _ _ _ (sym (c .before .before .before .enum-told .given .1) ∙ b4 .before .judge-run .ensures)
 
 run-raised-requires : tie.Need-run-raised-requires
-run-raised-requires c κs = fits-a-run _ _ _ _ _ _ (sym (c .before .before .before .enum-told .given .1) ∙ c .before .before .before .before .before .judge-run .ensures)
+run-raised-requires c κs = let b4 = c .before .before .before .before in
+    fits-a-run _ _ _ _ _ _ (sym (c .before .before .before .enum-told .given .1) ∙ b4 .before .judge-run .ensures)
 
 enum-known-v : tie.Need-enum-known-v
 enum-known-v c = search needs
@@ -26,7 +28,9 @@ same-length-2 : tie.Need-same-length-2
 same-length-2 c = search needs
 
 returns : tie.Need-returns
-returns c = with-promises _ _ _ _ _ _ _ _ (run-unraised _ _ _ _ _ _ _ _ (c .before .before .before .before .before .before .before .if1 .taken) (sym (c .before .before .before .before .before .before .before .before .enum-told .given .1) ∙ c .before .before .before .before .before .before .before .before .before .before .judge-run .ensures) (c .before .before .before .before .run .ensures))
+returns c = let b4 = c .before .before .before .before in
+    let b8 = b4 .before .before .before .before in
+    with-promises _ _ _ _ _ _ _ _ (run-unraised _ _ _ _ _ _ _ _ (b4 .before .before .before .if1 .taken) (sym (b8 .enum-told .given .1) ∙ b8 .before .before .judge-run .ensures) (b4 .run .ensures))
 
 same-length-3 : tie.Need-same-length-3
 same-length-3 c = search needs
@@ -35,7 +39,9 @@ same-length-4 : tie.Need-same-length-4
 same-length-4 c = search needs
 
 returns-2 : tie.Need-returns-2
-returns-2 c = with-promises _ _ _ _ _ _ _ _ (run-accepted _ _ _ _ _ _ _ _ (sym (c .before .before .before .before .before .before .before .before .enum-told .given .1) ∙ c .before .before .before .before .before .before .before .before .before .before .judge-run .ensures) (c .before .before .before .before .run-raised .ensures))
+returns-2 c = let b4 = c .before .before .before .before in
+    let b8 = b4 .before .before .before .before in
+    with-promises _ _ _ _ _ _ _ _ (run-accepted _ _ _ _ _ _ _ _ (sym (b8 .enum-told .given .1) ∙ b8 .before .before .judge-run .ensures) (b4 .run-raised .ensures))
 
 same-length-5 : tie.Need-same-length-5
 same-length-5 c = search needs

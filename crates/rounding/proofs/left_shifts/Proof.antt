@@ -31,7 +31,12 @@ add-t10 c = search needs
 
 returns-2 : tie.Need-returns-2
 unfolding leftShifts
-returns-2 c = (rw (ne-eqb _ _ (c .before .before .before .before .if1 .left)) (let b = left-back _ _ (record { small = c .before .before .before .before .before .pre .0; equal = c .before .before .before .before .before .pre .1 }) (c .before .before .before .normalize48 .ensures .0) in cc), omega arith, omega arith)
+returns-2 c = (
+  let b4 = c .before .before .before .before in
+      rw (ne-eqb _ _ (b4 .if1 .left)) (let b = left-back _ _ (record { small = b4 .before .pre .0; equal = b4 .before .pre .1 }) (c .before .before .before .normalize48 .ensures .0) in cc),
+  omega arith,
+  omega arith,
+)
 
 pub left-shifts-spec : {M : Type 1} → statement M
 left-shifts-spec =

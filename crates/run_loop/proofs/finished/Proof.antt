@@ -20,7 +20,14 @@ typed-requires c κs = search needs
 
 returns : tie.Need-returns
 unfolding runOf
-returns c = rw (← (c .before .before .before .before .control-of .ensures), ← (c .before .before .before .control-after .ensures), ← (c .before .before .devices-of .ensures), ← (c .before .taken .ensures), ← (c .typed .ensures))
+returns c = let b4 = c .before .before .before .before in
+    rw (
+      ← (b4 .control-of .ensures),
+      ← (c .before .before .before .control-after .ensures),
+      ← (c .before .before .devices-of .ensures),
+      ← (c .before .taken .ensures),
+      ← (c .typed .ensures),
+    )
 
 pub finished-spec : {M : Type 1} → statement M
 finished-spec =

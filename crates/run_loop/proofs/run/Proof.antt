@@ -18,7 +18,14 @@ channel-of-requires : tie.Need-channel-of-requires
 channel-of-requires c κs = search needs
 
 cycles-requires : tie.Need-cycles-requires
-cycles-requires c κs = (rw (c .before .before .before .before .before .before .row-of .ensures .0) (c .before .before .before .before .before .before .before .before .before .before .before .pre .0), c .before .before .before .before .before .before .before .before .before .before .before .pre .1, c .before .before .before .before .before .before .row-of .ensures .1, c .before .before .before .before .channel-of .ensures .1)
+cycles-requires c κs = (
+  let b4 = c .before .before .before .before in
+      let b8 = b4 .before .before .before .before in
+      rw (b4 .before .before .row-of .ensures .0) (b8 .before .before .before .pre .0),
+  c .before .before .before .before .before .before .before .before .before .before .before .pre .1,
+  c .before .before .before .before .before .before .row-of .ensures .1,
+  c .before .before .before .before .channel-of .ensures .1,
+)
 
 finished-requires : tie.Need-finished-requires
 finished-requires c κs = search needs
@@ -30,7 +37,13 @@ same-length-2 : tie.Need-same-length-2
 same-length-2 c = search needs
 
 returns-2 : tie.Need-returns-2
-returns-2 c = rw (c .finished .ensures) (handed-run _ _ _ _ _ _ (rw (c .before .before .before .before .before .before .before .before .before .before .before .before .before .before .before .row-of .ensures .0, c .before .before .before .before .before .before .before .before .before .before .before .before .before .channel-of .ensures .0) at (c .before .before .before .before .before .before .before .before .cycles .ensures .0)))
+returns-2 c = let b4 = c .before .before .before .before in
+    let b8 = b4 .before .before .before .before in
+    let b12 = b8 .before .before .before .before in
+    rw (c .finished .ensures) (handed-run _ _ _ _ _ _ (rw (
+      b12 .before .before .before .row-of .ensures .0,
+      b12 .before .channel-of .ensures .0,
+    ) at (b8 .cycles .ensures .0)))
 
 pub run-spec : {M : Type 1} → statement M
 run-spec =

@@ -15,13 +15,25 @@ returns : tie.Need-returns
 returns c = rw (c .in-reset .ensures, c .before .before .raise .ensures) (handed-in-reset _ _ _ _ _ _ (rw (c .before .before .raise .ensures) at (c .before .if1 .taken)))
 
 row-of-requires : tie.Need-row-of-requires
-row-of-requires c κs = (rw (c .before .raise .ensures) (accepted-valid (computer _ _) (c .before .before .before .before .before .pre .0) .widths .high), c .if1 .left)
+row-of-requires c κs = (
+  let b4 = c .before .before .before .before in
+      rw (c .before .raise .ensures) (accepted-valid (computer _ _) (b4 .before .pre .0) .widths .high),
+  c .if1 .left,
+)
 
 channel-of-requires : tie.Need-channel-of-requires
 channel-of-requires c κs = search needs
 
 cycles-requires : tie.Need-cycles-requires
-cycles-requires c κs = (rw (c .before .before .before .before .before .before .row-of .ensures .0, c .before .before .before .before .before .before .before .before .raise .ensures) (c .before .before .before .before .before .before .before .before .before .before .before .before .pre .0), c .before .before .before .before .before .before .before .before .before .before .before .before .pre .1, c .before .before .before .before .before .before .row-of .ensures .1, c .before .before .before .before .channel-of .ensures .1)
+cycles-requires c κs = (
+  let b4 = c .before .before .before .before in
+      let b8 = b4 .before .before .before .before in
+      let b12 = b8 .before .before .before .before in
+      rw (b4 .before .before .row-of .ensures .0, b8 .raise .ensures) (b12 .pre .0),
+  c .before .before .before .before .before .before .before .before .before .before .before .before .pre .1,
+  c .before .before .before .before .before .before .row-of .ensures .1,
+  c .before .before .before .before .channel-of .ensures .1,
+)
 
 finished-requires : tie.Need-finished-requires
 finished-requires c κs = search needs
@@ -33,7 +45,15 @@ same-length-2 : tie.Need-same-length-2
 same-length-2 c = search needs
 
 returns-2 : tie.Need-returns-2
-returns-2 c = rw (c .finished .ensures) (handed-run _ _ _ _ _ _ (rw (c .before .before .before .before .before .before .before .before .before .before .before .before .before .before .before .row-of .ensures .0, c .before .before .before .before .before .before .before .before .before .before .before .before .before .channel-of .ensures .0, c .before .before .before .before .before .before .before .before .before .before .before .before .before .before .before .before .before .raise .ensures) at (c .before .before .before .before .before .before .before .before .cycles .ensures .0)))
+returns-2 c = let b4 = c .before .before .before .before in
+    let b8 = b4 .before .before .before .before in
+    let b12 = b8 .before .before .before .before in
+    let b16 = b12 .before .before .before .before in
+    rw (c .finished .ensures) (handed-run _ _ _ _ _ _ (rw (
+      b12 .before .before .before .row-of .ensures .0,
+      b12 .before .channel-of .ensures .0,
+      b16 .before .raise .ensures,
+    ) at (b8 .cycles .ensures .0)))
 
 pub run-raised-spec : {M : Type 1} → statement M
 run-raised-spec =

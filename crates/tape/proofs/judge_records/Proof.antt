@@ -36,13 +36,15 @@ enum-known-s : tie.Need-enum-known-s Inv-loop μ-loop
 enum-known-s c = search needs
 
 returns : tie.Need-returns Inv-loop μ-loop
-returns c = judge-done _ _ (now (c .before .before .before .before .before .before .before .args .tape)) (c .before .before .before .before .before .loop .at) _ (c .before .before .before .judge-step .ensures) _ (c .before .s .given .1) ∙ c .before .before .before .before .before .loop .inv .1
+returns c = let b4 = c .before .before .before .before in
+    judge-done _ _ (now (b4 .before .before .before .args .tape)) (b4 .before .loop .at) _ (c .before .before .before .judge-step .ensures) _ (c .before .s .given .1) ∙ b4 .before .loop .inv .1
 
 enum-known-s-2 : tie.Need-enum-known-s-2 Inv-loop μ-loop
 enum-known-s-2 c = search needs
 
 inside : (c : tie.After-known-told2 Inv-loop μ-loop) → (6 ≤ c .before .s2 .given .0 .0) × (c .before .before .before .before .before .loop .at + c .before .s2 .given .0 .0 ≤ length (now (c .before .before .before .before .before .before .before .args .tape)))
-inside c = advance-inside _ _ (now (c .before .before .before .before .before .before .before .args .tape)) (c .before .before .before .before .before .loop .at) _ (c .before .before .before .judge-step .ensures) _ _ (c .before .s2 .given .1) (c .before .before .before .before .before .loop .inv .0)
+inside c = let b4 = c .before .before .before .before in
+    advance-inside _ _ (now (b4 .before .before .before .args .tape)) (b4 .before .loop .at) _ (c .before .before .before .judge-step .ensures) _ _ (c .before .s2 .given .1) (b4 .before .loop .inv .0)
 
 add-at : tie.Need-add-at Inv-loop μ-loop
 add-at c = omega (arith, inside c)
@@ -51,7 +53,11 @@ loop-less : tie.Need-loop-less Inv-loop μ-loop
 loop-less c = omega (arith, inside c)
 
 loop-again : tie.Need-loop-again Inv-loop μ-loop
-loop-again c = (inside c .1, judge-advance _ _ (now (c .before .before .before .before .before .before .before .args .tape)) (c .before .before .before .before .before .loop .at) _ (c .before .before .before .judge-step .ensures) _ _ (c .before .s2 .given .1) ∙ c .before .before .before .before .before .loop .inv .1)
+loop-again c = (
+  inside c .1,
+  let b4 = c .before .before .before .before in
+      judge-advance _ _ (now (b4 .before .before .before .args .tape)) (b4 .before .loop .at) _ (c .before .before .before .judge-step .ensures) _ _ (c .before .s2 .given .1) ∙ b4 .before .loop .inv .1,
+)
 
 pub judge-records-spec : {M : Type 1} → statement M
 judge-records-spec =

@@ -15,7 +15,8 @@ load-records-requires : tie.Need-load-records-requires
 load-records-requires c κs = records-fit (load-judged _ _ (sym (c .before .before .before .judge-load .ensures) ∙ c .before .enum-told .given .1))
 
 loaded-control-requires : tie.Need-loaded-control-requires
-loaded-control-requires c κs = control-there (load-judged _ _ (sym (c .before .before .before .before .before .before .judge-load .ensures) ∙ c .before .before .before .before .enum-told .given .1)) refl .0
+loaded-control-requires c κs = let b4 = c .before .before .before .before in
+    control-there (load-judged _ _ (sym (b4 .before .before .judge-load .ensures) ∙ b4 .enum-told .given .1)) refl .0
 
 enum-known-v : tie.Need-enum-known-v
 enum-known-v c = search needs
@@ -24,7 +25,8 @@ same-length : tie.Need-same-length
 same-length c = search needs
 
 returns : tie.Need-returns
-returns c = load-accepted _ _ _ _ (c .before .before .before .before .before .before .before .judge-load .ensures) _ _ (c .before .before .before .before .before .enum-told .given .1) (c .before .before .before .load-records .ensures) (c .loaded-control .ensures)
+returns c = let b4 = c .before .before .before .before in
+    load-accepted _ _ _ _ (b4 .before .before .before .judge-load .ensures) _ _ (b4 .before .enum-told .given .1) (c .before .before .before .load-records .ensures) (c .loaded-control .ensures)
 
 same-length-2 : tie.Need-same-length-2
 same-length-2 c = search needs

@@ -16,13 +16,18 @@ payload-requires : tie.Need-payload-requires
 payload-requires c κs = search needs
 
 load-block-requires : tie.Need-load-block-requires
-load-block-requires c κs = load-fits _ _ _ _ (c .before .before .before .before .before .before .before .pre) (c .before .before .before .record-kind .ensures) (c .before .before .if1 .taken) (c .before .payload .ensures)
+load-block-requires c κs = let b4 = c .before .before .before .before in
+    load-fits _ _ _ _ (b4 .before .before .before .pre) (c .before .before .before .record-kind .ensures) (c .before .before .if1 .taken) (c .before .payload .ensures)
 
 same-length : tie.Need-same-length
 same-length c = search needs
 
 returns : tie.Need-returns
-returns c = (rw (c .before .before .before .before .before .before .before .record-length .ensures .0), a-block _ _ _ _ _ (c .before .before .before .before .before .before .record-kind .ensures) (c .before .before .before .before .before .if1 .taken) (c .before .before .before .before .payload .ensures) (c .before .before .load-block .ensures))
+returns c = (
+  rw (c .before .before .before .before .before .before .before .record-length .ensures .0),
+  let b4 = c .before .before .before .before in
+      a-block _ _ _ _ _ (b4 .before .before .record-kind .ensures) (b4 .before .if1 .taken) (b4 .payload .ensures) (c .before .before .load-block .ensures),
+)
 
 returns-2 : tie.Need-returns-2
 returns-2 c = (rw (c .before .before .record-length .ensures .0), no-block _ _ _ (c .before .record-kind .ensures) (c .if1 .left))

@@ -33,10 +33,13 @@ part-load-record-end : tie.Need-part-load-record-end Inv-loop μ-loop
 part-load-record-end c = search needs
 
 load-record-requires : tie.Need-load-record-requires Inv-loop μ-loop
-load-record-requires c κs = rw (c .before .before .before .loop .inv .1) (fits-at _ (c .before .before .before .loop .store) (now (c .before .before .before .before .before .before .args .tape)) (c .before .before .before .loop .at) (c .before .before .loop-test .taken) (c .before .before .before .loop .inv .2))
+load-record-requires c κs = let b4 = c .before .before .before .before in
+    rw (c .before .before .before .loop .inv .1) (fits-at _ (c .before .before .before .loop .store) (now (b4 .before .before .args .tape)) (c .before .before .before .loop .at) (c .before .before .loop-test .taken) (c .before .before .before .loop .inv .2))
 
 inside : (c : tie.After-slice-known2 Inv-loop μ-loop) → (6 ≤ c .before .before .load-record .result) × (c .before .before .before .before .before .before .loop .at + c .before .before .load-record .result ≤ length (now (c .before .before .before .before .before .before .before .before .before .args .tape)))
-inside c = inside-at _ (c .before .before .before .before .before .before .loop .store) (now (c .before .before .before .before .before .before .before .before .before .args .tape)) (c .before .before .before .before .before .before .loop .at) (c .before .before .before .before .before .loop-test .taken) (c .before .before .before .before .before .before .loop .inv .2) _ (c .before .before .load-record .ensures .0)
+inside c = let b4 = c .before .before .before .before in
+    let b8 = b4 .before .before .before .before in
+    inside-at _ (b4 .before .before .loop .store) (now (b8 .before .args .tape)) (b4 .before .before .loop .at) (b4 .before .loop-test .taken) (b4 .before .before .loop .inv .2) _ (c .before .before .load-record .ensures .0)
 
 add-at : tie.Need-add-at Inv-loop μ-loop
 add-at c = omega (arith, inside c)
@@ -56,7 +59,8 @@ same-length : tie.Need-same-length Inv-loop μ-loop
 same-length c = c .before .loop .inv .1
 
 returns : tie.Need-returns Inv-loop μ-loop
-returns c = load-end (c .before .loop .store) (now (c .before .before .before .before .args .tape)) (c .before .loop .at) (c .loop-test .left) ∙ c .before .loop .inv .3
+returns c = let b4 = c .before .before .before .before in
+    load-end (c .before .loop .store) (now (b4 .args .tape)) (c .before .loop .at) (c .loop-test .left) ∙ c .before .loop .inv .3
 
 pub load-records-spec : {M : Type 1} → statement M
 load-records-spec =

@@ -24,7 +24,13 @@ unfolding fdLoop
 loop-holds c = (search needs, search needs, search needs, search needs, search needs, ap (until fdStop (fdStep _) 71) (c .start .ensures .0))
 
 returns : tie.Need-returns Inv-loop μ-loop
-returns c = (sym (until-stop fdStop (fdStep _) _ _ (ap not (ne-eqb _ _ (c .if1 .taken)))) ∙ c .before .before .before .before .loop .inv .5, search needs, search needs, search needs)
+returns c = (
+  let b4 = c .before .before .before .before in
+      sym (until-stop fdStop (fdStep _) _ _ (ap not (ne-eqb _ _ (c .if1 .taken)))) ∙ b4 .loop .inv .5,
+  search needs,
+  search needs,
+  search needs,
+)
 
 step-requires : tie.Need-step-requires Inv-loop μ-loop
 step-requires c κs = search needs
@@ -36,7 +42,15 @@ loop-less : tie.Need-loop-less Inv-loop μ-loop
 loop-less c = search needs
 
 loop-again : tie.Need-loop-again Inv-loop μ-loop
-loop-again c = (search needs, search needs, search needs, search needs, omega arith, ap (until fdStop (fdStep _) _) (c .step .ensures .0) ∙ sym (until-next fdStop (fdStep _) 71 _ _ (c .before .before .before .before .loop-test .taken) (ap not (eq-eqb _ _ (c .before .if1 .left)))) ∙ c .before .before .before .before .before .loop .inv .5)
+loop-again c = (
+  search needs,
+  search needs,
+  search needs,
+  search needs,
+  omega arith,
+  let b4 = c .before .before .before .before in
+      ap (until fdStop (fdStep _) _) (c .step .ensures .0) ∙ sym (until-next fdStop (fdStep _) 71 _ _ (b4 .loop-test .taken) (ap not (eq-eqb _ _ (c .before .if1 .left)))) ∙ b4 .before .loop .inv .5,
+)
 
 returns-2 : tie.Need-returns-2 Inv-loop μ-loop
 returns-2 c = (sym (until-out fdStop (fdStep _) 71 _ _ (c .loop-test .left)) ∙ c .before .loop .inv .5, search needs, search needs, search needs)
