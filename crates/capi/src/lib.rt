@@ -1,6 +1,6 @@
 // The C calls (host/include/rc4000.h): the public calls, with the records of `capi_records` in and out. Flag bytes are tested first, save by a load.
 ghost use mathlib.Core.Path.{_≡_};
-ghost use Rattle.tape.specs.Remark.{remarkSpan};
+ghost use Rattle.definition_tape.specs.Remark.{remarkSpan};
 ghost use Rattle.capi_records.specs.Results.{returned, runReturned, runCall, resetCall, startCall, autoloadCall, loadCall, textOf};
 use capi_records::AutoloadResult;
 use capi_records::CallResult;
@@ -96,7 +96,7 @@ pub extern "C" fn rc4000_load(store: &mut [u32], control: ControlRecord, tape: &
 pub extern "C" fn rc4000_remark(tape: &[u8], cells: usize) -> TextResult
     ensures { λ r. ⌜ r ≡ textOf (remarkSpan (now (tape .entry)) cells) ⌝ }
 {
-    let x = tape::remark_span(tape, cells);
+    let x = tape_remark::remark_span(tape, cells);
     TextResult {
         refusal: x.refusal,
         found: x.found,

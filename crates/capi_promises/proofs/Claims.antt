@@ -27,7 +27,7 @@ use Rattle.definition_runs.specs.Lent.{machineLent, handedBack, runLent, KeyRet
 use Rattle.definition_runs.specs.GenericRun.{refusedNumber}
 use Rattle.run_promises.proofs.Promises.{refused-run, refused-only, refusal-numbers}
 use Rattle.cycle_promises.proofs.Claims as keys
-use Rattle.tape.specs.Load.{judgeThen, judgeLoad, loadedBy, loading}
+use Rattle.definition_tape.specs.Load.{judgeThen, judgeLoad, loadedBy, loading}
 use Rattle.capi_records.specs.declared.ControlRecord.{ControlRecord}
 use Rattle.capi_records.specs.Results.{flagsFit, controlIn, judgeFlags, runReturned, resultBy, autoloadedBy, runBy, keyBy, autoloadBy, loadBy, runCall, resetCall, startCall, autoloadCall, loadCall}
 use Rattle.capi_promises.specs.Claims.{numberOf, fitsLent, RunNumbers, AutoloadCallNumbers, RunAsGiven, StateAsGiven, AutoloadAsGiven, RefusedAsGiven}

@@ -23,8 +23,8 @@ use Rattle.definition_instructions.specs.Machine.{Computer}
 use Rattle.definition_runs.specs.Keys.{Pressed, pressingReset, pressingStart}
 use Rattle.definition_runs.specs.Lent as Lent
 use Rattle.definition_runs.specs.Lent.{runLent, KeyReturned, autoloadLent}
-use Rattle.tape.specs.Load.{judgeThen, Loaded, loading}
-use Rattle.tape.specs.declared.Span.{Span}
+use Rattle.definition_tape.specs.Load.{judgeThen, Loaded, loading}
+use Rattle.definition_tape.specs.declared.Span.{Span}
 use Rattle.capi_records.specs.declared.ControlRecord.{ControlRecord}
 use Rattle.capi_records.specs.declared.CallResult.{CallResult}
 use Rattle.capi_records.specs.declared.StateResult.{StateResult}

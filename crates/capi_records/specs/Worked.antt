@@ -9,10 +9,10 @@ use Rattle.machine.specs.declared.Control.{Control}
 use Rattle.machine.specs.declared.Devices.{Devices}
 use Rattle.machine.specs.declared.Refusal.the-variants.{StoreSize, CellValue, ControlField, TapeEnds}
 use Rattle.acceptance.specs.Accept.{sizeFits, cellFits, cellsFit, judgeStore}
-use Rattle.tape.specs.Layout.{recordsWithin, recordsOf}
-use Rattle.tape.specs.Judge.{judgeRecords, judgeTape}
-use Rattle.tape.specs.Load.{judgeLoad, loading}
-use Rattle.tape.specs.Examples.{opened, scopeTape}
+use Rattle.definition_tape.specs.Layout.{recordsWithin, recordsOf}
+use Rattle.definition_tape.specs.Judge.{judgeRecords, judgeTape}
+use Rattle.definition_tape.specs.Load.{judgeLoad, loading}
+use Rattle.definition_tape.specs.Examples.{opened, scopeTape}
 use Rattle.capi_records.specs.declared.ControlRecord.{ControlRecord}
 use Rattle.capi_records.specs.declared.StateResult.{StateResult}
 use Rattle.capi_records.specs.Results.{flagsFit, flagByte, controlIn, recordOf, judgeFlags, refusedRun, refusedState, Returned, returned, runReturned, runCall, resetCall, startCall, autoloadCall, loadCall}

@@ -136,7 +136,7 @@ fn print_load(s: State, store: &[u32], given: &[u32]) {
 }
 
 fn load_case(copy: &[u32], store: &mut [u32], tape: &[u8]) {
-    let s = tape::load(store, given_control(), tape);
+    let s = tape_load::load(store, given_control(), tape);
     print_load(s, store, copy);
 }
 
@@ -158,10 +158,10 @@ fn checksum(text: &[u8]) -> u32 {
 
 // The span, then the text by its length and a checksum, which the other call gives.
 fn remark_case(cells: u32, tape: &[u8]) {
-    let span = tape::remark_span(tape, cells as usize);
+    let span = tape_remark::remark_span(tape, cells as usize);
     let mut found = true;
     let mut refusal: u32 = 99;
-    let text = tape::remark(tape, cells as usize, &mut found, &mut refusal);
+    let text = tape_remark::remark(tape, cells as usize, &mut found, &mut refusal);
     let length = text.len();
     let sum = checksum(text);
     print(refusal);

@@ -5,8 +5,8 @@ ghost use Rattle.definition_instructions.specs.Machine.{computer};
 ghost use Rattle.definition_runs.specs.Lent.{runResultOf, pressedOf, returned, runLent, keyReturned, autoloadLent};
 ghost use Rattle.definition_runs.specs.Keys.{pressingReset, pressingStart};
 ghost use Rattle.run_promises.specs.Promises.{KeepsProtected, TouchesNoDevice, Counts};
-ghost use Rattle.tape.specs.Load.{loading};
-ghost use Rattle.tape.specs.Remark.{remarkSpan, remarkText, placeFrom};
+ghost use Rattle.definition_tape.specs.Load.{loading};
+ghost use Rattle.definition_tape.specs.Remark.{remarkSpan, remarkText, placeFrom};
 use machine::Answer;
 use machine::Autoloaded;
 use machine::Control;
@@ -82,7 +82,7 @@ pub fn load(store: &mut [u32], control: Control, tape: &[u8]) -> State
     ensures state { λ r. ⌜ r ≡ loading (now (tape .entry)) (now (store .entry)) control .state ⌝ }
     ensures cells { λ _. ⌜ now (store .exit) ≡ loading (now (tape .entry)) (now (store .entry)) control .cells ⌝ }
 {
-    tape::load(store, control, tape)
+    tape_load::load(store, control, tape)
 }
 
 // The first remark's text as a part of the tape, where the tape loads into that many cells; empty for none and for a refusal.
@@ -92,5 +92,5 @@ pub fn remark<'a>(tape: &'a [u8], cells: usize, found: &mut bool, refusal: &mut 
     ensures flag { λ _. ⌜ now (found .exit) ≡ remarkSpan (now (tape .entry)) cells .found ⌝ }
     ensures number { λ _. ⌜ now (refusal .exit) ≡ remarkSpan (now (tape .entry)) cells .refusal ⌝ }
 {
-    tape::remark(tape, cells, found, refusal)
+    tape_remark::remark(tape, cells, found, refusal)
 }

@@ -11,12 +11,13 @@ use Rattle.machine.specs.declared.Verdict.{Verdict}
 use Rattle.machine.specs.declared.Verdict.the-variants.{Accepted, Rejected}
 use Rattle.acceptance.proofs.Tests.{passed, refused}
 use Rattle.acceptance.specs.Accept.{sizeFits, cellsFit, judgeStore, judgeMachine}
-use Rattle.tape.specs.Layout.{recordsOf}
-use Rattle.tape.specs.Judge.{judgeTape}
-use Rattle.tape.specs.Load.{loadRecords, loadedControl, judgeThen, judgeLoad, loadedBy, loading}
-use Rattle.tape.specs.Remark.{judgeReading, remarkSpan, remarkText}
-use Rattle.tape.proofs.Judged.{judged-back}
-use Rattle.tape.proofs.Tapes.{tape-judged, passed-then, remark-part as part}
+use Rattle.definition_tape.specs.Layout.{recordsOf}
+use Rattle.definition_tape.specs.Judge.{judgeTape}
+use Rattle.definition_tape.specs.Load.{loadRecords, loadedControl, judgeThen, judgeLoad, loadedBy, loading}
+use Rattle.definition_tape.specs.Remark.{judgeReading, remarkSpan, remarkText}
+use Rattle.definition_tape.proofs.Judged.{judged-back}
+use Rattle.definition_tape.proofs.Judged.{tape-judged, passed-then}
+use Rattle.definition_tape.proofs.Remarks.{remark-part as part}
 use Rattle.tape_promises.specs.Grammar.{TapeFor}
 use Rattle.tape_promises.specs.Claims.{AcceptedTapes, LoadsLayout, KeptCells, KeptSize, KeptAll, LoadedMachines, SameVerdict, FirstRemark, RemarkPart}
 use Rattle.tape_promises.proofs.Grammars.{grammar, judged-of}

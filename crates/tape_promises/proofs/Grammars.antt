@@ -11,11 +11,11 @@ use lib.Seq.{take-append-seam, drop-append-seam, drop-drop, getD-take}
 use lib.Dec.{leb, ltb, eqb}
 use Rattle.machine.specs.declared.Verdict.the-variants.{Accepted}
 use Rattle.acceptance.proofs.Tests.{both, neither}
-use Rattle.tape.specs.Layout.{numberAt, lengthOf, kindOf, payloadOf, restOf, firstCell, cellCount, flagsOf, lastByte}
-use Rattle.tape.specs.Judge.{kindKnown, inOrder, lengthFits, judgeBlock, controlGood, judgeControl, judgePayload}
+use Rattle.definition_tape.specs.Layout.{numberAt, lengthOf, kindOf, payloadOf, restOf, firstCell, cellCount, flagsOf, lastByte}
+use Rattle.definition_tape.specs.Judge.{kindKnown, inOrder, lengthFits, judgeBlock, controlGood, judgeControl, judgePayload}
 use Rattle.tape_promises.specs.Grammar.{Header, BlockPayload, ControlPayload, Records, block-then, remark-then, control-then-end}
-use Rattle.tape.proofs.Records.{length-payload}
-use Rattle.tape.proofs.Judged.{Good, Judged, last, more, block-length, control-length, end-length, remark-length, block-payload, control-payload, no-end}
+use Rattle.definition_tape.proofs.Records.{length-payload}
+use Rattle.definition_tape.proofs.Judged.{Good, Judged, last, more, block-length, control-length, end-length, remark-length, block-payload, control-payload, no-end}
 
 -- ---- from the judge to the grammar
 

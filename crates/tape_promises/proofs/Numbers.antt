@@ -17,12 +17,12 @@ use Rattle.machine.specs.declared.Verdict.{Verdict}
 use Rattle.machine.specs.declared.Verdict.the-variants.{Accepted, Rejected}
 use Rattle.acceptance.proofs.Tests.{refused}
 use Rattle.acceptance.specs.Accept.{sizeFits, cellsFit, judgeStore}
-use Rattle.tape.specs.Layout.{lengthOf, kindOf, payloadOf, restOf, recordsOf, firstOf, firstCell, cellCount, blockCells}
-use Rattle.tape.specs.Judge.{kindKnown, inOrder, lengthFits, judgeBlock, controlGood, judgeControl, judgePayload, judgeRecord, judgeAfter, judgeRecords, judgeTape}
-use Rattle.tape.specs.Load.{judgeThen, judgeLoad, loadedBy, loading}
-use Rattle.tape.specs.Remark.{judgeReading, noSpan, spanAt, spanBy, remarkSpan, textBy, remarkText}
-use Rattle.tape.proofs.Records.{length-rest, length-payload}
-use Rattle.tape.proofs.Judged.{block-length, control-length, end-length, remark-length, no-records, a-record}
+use Rattle.definition_tape.specs.Layout.{lengthOf, kindOf, payloadOf, restOf, recordsOf, firstOf, firstCell, cellCount, blockCells}
+use Rattle.definition_tape.specs.Judge.{kindKnown, inOrder, lengthFits, judgeBlock, controlGood, judgeControl, judgePayload, judgeRecord, judgeAfter, judgeRecords, judgeTape}
+use Rattle.definition_tape.specs.Load.{judgeThen, judgeLoad, loadedBy, loading}
+use Rattle.definition_tape.specs.Remark.{judgeReading, noSpan, spanAt, spanBy, remarkSpan, textBy, remarkText}
+use Rattle.definition_tape.proofs.Records.{length-rest, length-payload}
+use Rattle.definition_tape.proofs.Judged.{block-length, control-length, end-length, remark-length, no-records, a-record}
 use Rattle.tape_promises.specs.Grammar.{ControlPayload}
 use Rattle.tape_promises.specs.Numbers.{Test, met, unmet, passed, OutOfOrder, LengthFor, RecordRefused, RecordsRefused, this-one, later-one, TapeRefused, SizeRefused, LoadRefused, ReadingRefused}
 use Rattle.tape_promises.specs.Claims.{TapeNumbers, LoadNumbers, ReadingNumbers}

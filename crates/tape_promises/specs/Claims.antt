@@ -10,9 +10,9 @@ use Rattle.machine.specs.declared.Control.{Control}
 use Rattle.machine.specs.declared.Refusal.{Refusal}
 use Rattle.machine.specs.declared.Verdict.the-variants.{Accepted, Rejected}
 use Rattle.acceptance.specs.Accept.{sizeFits, cellsFit, judgeStore, judgeMachine}
-use Rattle.tape.specs.Judge.{judgeTape}
-use Rattle.tape.specs.Load.{Loaded, judgeLoad, loading}
-use Rattle.tape.specs.Remark.{judgeReading, remarkSpan, remarkText}
+use Rattle.definition_tape.specs.Judge.{judgeTape}
+use Rattle.definition_tape.specs.Load.{Loaded, judgeLoad, loading}
+use Rattle.definition_tape.specs.Remark.{judgeReading, remarkSpan, remarkText}
 use Rattle.tape_promises.specs.Grammar.{Records, TapeFor}
 use Rattle.tape_promises.specs.Contents.{blocksOf, Unnamed, Holds, controlPayload, ControlFields, firstRemark, spanOf, remarkBytes}
 use Rattle.tape_promises.specs.Numbers.{TapeRefused, LoadRefused, ReadingRefused}

@@ -6,8 +6,8 @@ use mathlib.Core.Bool.{Bool, true, false}
 use mathlib.Core.List.{List, [], _∷_, _++_}
 use lib.ListN.{length, getD}
 use Rattle.machine.specs.declared.Control.{Control}
-use Rattle.tape.specs.declared.Span.{Span}
-use Rattle.tape.specs.Layout.{numberAt, firstCell, blockCells, flagsOf}
+use Rattle.definition_tape.specs.declared.Span.{Span}
+use Rattle.definition_tape.specs.Layout.{numberAt, firstCell, blockCells, flagsOf}
 use Rattle.tape_promises.specs.Grammar.{Records, block-then, remark-then, control-then-end}
 
 -- ---- kind 1, block: first cell index, then the cells

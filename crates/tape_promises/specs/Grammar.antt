@@ -6,7 +6,7 @@ use mathlib.Core.Bool.{true}
 use mathlib.Core.List.{List, _++_}
 use lib.ListN.{length, getD}
 use Rattle.acceptance.specs.Accept.{cellsFit, controlFits}
-use Rattle.tape.specs.Layout.{numberAt, firstCell, cellCount, blockCells, flagsOf, lastByte, controlOf}
+use Rattle.definition_tape.specs.Layout.{numberAt, firstCell, cellCount, blockCells, flagsOf, lastByte, controlOf}
 
 -- a record's header: the payload's length l (4 bytes), the kind k (2 bytes)
 pub record Header (k l : ℕ) (h : List ℕ) : Type 0 where

@@ -8,7 +8,7 @@ use mathlib.Core.Logic.{_⊎_}
 use lib.ListN.{length}
 use lib.Dec.{eqb}
 use Rattle.acceptance.specs.Accept.{cellsFit}
-use Rattle.tape.specs.Layout.{lengthOf, kindOf, payloadOf, restOf, firstCell, cellCount, blockCells}
+use Rattle.definition_tape.specs.Layout.{lengthOf, kindOf, payloadOf, restOf, firstCell, cellCount, blockCells}
 use Rattle.tape_promises.specs.Grammar.{ControlPayload}
 
 -- a test in a row of tests: k is its number where its condition is met, else what the tests after it say

@@ -1,0 +1,5 @@
+pub mod Records
+pub mod Firsts
+pub mod Judged
+pub mod Loads
+pub mod Remarks

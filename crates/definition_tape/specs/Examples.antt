@@ -1,0 +1,100 @@
+-- Tapes by computation: document 01's of 32 bytes, and others.
+-- Assumes nothing.
+use Prim.Native.Nat.{ℕ}
+use mathlib.Core.Bool.{Bool, true, false}
+use mathlib.Core.Path.{_≡_, refl}
+use mathlib.Core.List.{List, [], _∷_, _++_}
+use lib.ListN.{take, replicate}
+use Rattle.machine.specs.Answers.{verdictNumber}
+use Rattle.machine.specs.Records.{freshRecord}
+use Rattle.machine.specs.declared.Control.{Control}
+use Rattle.machine.specs.declared.Refusal.the-variants.{RecordKind, RecordOrder}
+use Rattle.machine.specs.declared.Verdict.the-variants.{Accepted, Rejected}
+use Rattle.acceptance.specs.Accept.{sizeFits, cellsFit, stateFits, controlFits, judgeStore}
+use Rattle.definition_tape.specs.Layout.{lengthOf, kindOf, payloadOf, restOf, recordsWithin, recordsOf, firstOf, cellsFrom, blockCells, controlOf}
+use Rattle.definition_tape.specs.Judge.{kindKnown, inOrder, lengthFits, judgeBlock, controlGood, judgeControl, judgePayload, judgeRecord, judgeRecords, judgeTape}
+use Rattle.definition_tape.specs.Load.{pasted, storedBlock, loadRecord, loadRecords, loadedControl, judgeLoad, loading}
+use Rattle.definition_tape.specs.Remark.{judgeReading, noSpan, remarkSpan, placeFrom}
+
+-- opens what a tape is read by
+unfoldable pub opened : ℕ
+unfolding lengthOf kindOf payloadOf restOf recordsWithin recordsOf firstOf controlOf kindKnown inOrder lengthFits controlGood judgeControl judgePayload judgeRecord judgeRecords judgeTape sizeFits cellsFit stateFits controlFits judgeStore loadRecord loadRecords loadedControl judgeLoad loading judgeReading remarkSpan cellsFrom blockCells judgeBlock pasted storedBlock
+opened = 0
+
+-- with flags f and the last byte z
+abbrev pub controlTape : ℕ → ℕ → List ℕ
+controlTape f z = 20 ∷ 0 ∷ 0 ∷ 0 ∷ 2 ∷ 0 ∷ replicate 16 0 ++ (128 ∷ 0 ∷ f ∷ z ∷ 0 ∷ 0 ∷ 0 ∷ 0 ∷ 3 ∷ 0 ∷ [])
+
+abbrev pub flagsTape : ℕ → List ℕ
+flagsTape f = controlTape f 0
+
+abbrev pub scopeTape : List ℕ
+scopeTape = flagsTape 5
+
+-- IC, IR, IM, pending and EX zero, PR 128, monitor mode, the reset state; the cells keep what they held; there is no remark
+pub paper-tape : (c : Control) → (loading scopeTape (replicate 8 7) c ≡ record { cells = replicate 8 7; state = record { control = freshRecord; verdict = Accepted } }) × (remarkSpan scopeTape 8 ≡ noSpan 0)
+unfolding opened
+paper-tape c = (refl, refl)
+
+-- values 1 monitor, 2 enabled, 4 reset, each told apart
+abbrev pub modesAfter : ℕ → Control → Bool × Bool × Bool
+modesAfter f c = let d = loading (flagsTape f) (replicate 8 7) c .state .control in (d .monitor, d .enabled, d .reset)
+
+pub flags-apart : (c : Control)
+    → (modesAfter 0 c ≡ (false, false, false))
+    × (modesAfter 1 c ≡ (true, false, false))
+    × (modesAfter 2 c ≡ (false, true, false))
+    × (modesAfter 3 c ≡ (true, true, false))
+    × (modesAfter 5 c ≡ (true, false, true))
+unfolding opened
+flags-apart c = (refl, refl, refl, refl, refl)
+
+-- a block of two cells at the cell 6, a remark of one byte, then document 01's tape
+abbrev pub blockTape : List ℕ
+blockTape = 12 ∷ 0 ∷ 0 ∷ 0 ∷ 1 ∷ 0 ∷ 6 ∷ 0 ∷ 0 ∷ 0 ∷ 5 ∷ 0 ∷ 0 ∷ 0 ∷ 6 ∷ 0 ∷ 0 ∷ 7 ∷ 1 ∷ 0 ∷ 0 ∷ 0 ∷ 4 ∷ 0 ∷ 65 ∷ scopeTape
+
+pub block-tape : (c : Control) → (loading blockTape (replicate 8 7) c .cells ≡ replicate 6 7 ++ (5 ∷ 117440518 ∷ [])) × (remarkSpan blockTape 8 ≡ record { start = 24; end = 25; found = true; refusal = 0 })
+unfolding opened
+block-tape c = (refl, refl)
+
+-- the text of that remark lies 24 bytes after the place of the tape
+pub text-place : placeFrom (3, 1000) (remarkSpan blockTape 8 .start) ≡ (3, 1024)
+unfolding opened
+text-place = refl
+
+-- a block of one cell and a control record, no two bytes of a number alike
+abbrev pub bytesTape : List ℕ
+bytesTape =
+    8 ∷ 0 ∷ 0 ∷ 0 ∷ 1 ∷ 0 ∷ 7 ∷ 0 ∷ 0 ∷ 0 ∷ 1 ∷ 2 ∷ 3 ∷ 4
+    ∷ 20 ∷ 0 ∷ 0 ∷ 0 ∷ 2 ∷ 0 ∷ 1 ∷ 2 ∷ 3 ∷ 0 ∷ 4 ∷ 5 ∷ 6 ∷ 0 ∷ 7 ∷ 8 ∷ 9 ∷ 0 ∷ 10 ∷ 11 ∷ 12 ∷ 0 ∷ 130 ∷ 5 ∷ 2 ∷ 0
+    ∷ 0 ∷ 0 ∷ 0 ∷ 0 ∷ 3 ∷ 0 ∷ []
+
+pub bytes-tape : (c : Control)
+    → loading bytesTape (replicate 8 7) c
+    ≡ record {
+      cells = replicate 7 7 ++ (67305985 ∷ []);
+      state = record {
+        control = record { ic = 197121; ir = 394500; im = 591879; pending = 789258; pr = 130; ex = 5; monitor = false; enabled = true; reset = false };
+        verdict = Accepted;
+      };
+    }
+unfolding opened
+bytes-tape c = refl
+
+-- flags over 7 and a last byte other than zero are 3
+pub flags-8 : verdictNumber (judgeTape 8 (controlTape 8 0)) ≡ 3
+unfolding opened
+flags-8 = refl
+
+pub last-byte : verdictNumber (judgeTape 8 (controlTape 5 1)) ≡ 3
+unfolding opened
+last-byte = refl
+
+-- an unknown kind after the control record is 7, another record there is 11
+pub unknown-kind : judgeTape 8 (take 26 scopeTape ++ (0 ∷ 0 ∷ 0 ∷ 0 ∷ 9 ∷ 0 ∷ [])) ≡ Rejected RecordKind
+unfolding opened
+unknown-kind = refl
+
+pub second-control : judgeTape 8 (take 26 scopeTape ++ scopeTape) ≡ Rejected RecordOrder
+unfolding opened
+second-control = refl

@@ -1,0 +1,59 @@
+-- What a tape loads: cells and control record (document 01, "Load tape"). The whole tape is judged before a cell changes.
+-- Assumes nothing.
+use Prim.Native.Nat.{ℕ}
+use mathlib.Core.Bool.{cond}
+use mathlib.Core.List.{List, [], _∷_, _++_}
+use lib.ListN.{length, take, drop}
+use lib.Dec.{eqb}
+use Rattle.machine.specs.declared.Control.{Control}
+use Rattle.machine.specs.declared.State.{State}
+use Rattle.machine.specs.declared.Verdict.{Verdict}
+use Rattle.machine.specs.declared.Verdict.the-variants.{Accepted, Rejected}
+use Rattle.acceptance.specs.Accept.{judgeStore}
+use Rattle.definition_tape.specs.Layout.{kindOf, payloadOf, recordsOf, firstOf, firstCell, blockCells, controlOf}
+use Rattle.definition_tape.specs.Judge.{judgeTape}
+
+-- the cells cs over the first ones of a part of the store
+unfoldable pub pasted : List ℕ → List ℕ → List ℕ
+pasted part cs = cs ++ drop (length cs) part
+
+-- the cells cs go into the part of the store that begins at its cell i
+unfoldable pub storedBlock : List ℕ → ℕ → List ℕ → List ℕ
+storedBlock s i cs = take i s ++ pasted (drop i s) cs
+
+-- kind 1, block
+unfoldable pub loadRecord : List ℕ → List ℕ → List ℕ
+loadRecord s t = cond (eqb (kindOf t) 1) (storedBlock s (firstCell (payloadOf t)) (blockCells (payloadOf t))) s
+
+-- record by record: later blocks overwrite, cells that no block names keep what they held
+unfoldable pub loadRecords : List ℕ → List (List ℕ) → List ℕ
+loadRecords s [] = s
+loadRecords s (t ∷ ts) = loadRecords (loadRecord s t) ts
+
+-- kind 2, control
+unfoldable pub loadedControl : List ℕ → Control
+loadedControl t = controlOf (payloadOf (firstOf 2 (recordsOf t)))
+
+-- ---- loading
+
+-- 1 and 2, then the tape
+abbrev pub judgeThen : Verdict → Verdict → Verdict
+judgeThen (Rejected r) v = Rejected r
+judgeThen Accepted v = v
+
+-- the refusals of a load, the store's first
+unfoldable pub judgeLoad : List ℕ → List ℕ → Verdict
+judgeLoad t s = judgeThen (judgeStore s) (judgeTape (length s) t)
+
+pub record Loaded : Type 0 where
+  pub cells : List ℕ
+  pub state : State
+
+-- on a refusal store and control record come back as given
+abbrev pub loadedBy : Verdict → List ℕ → List ℕ → Control → Loaded
+loadedBy (Rejected r) t s c = record { cells = s; state = record { control = c; verdict = Rejected r } }
+loadedBy Accepted t s c = record { cells = loadRecords s (recordsOf t); state = record { control = loadedControl t; verdict = Accepted } }
+
+-- the tape t into a store of the cells s, with the caller's control record c
+unfoldable pub loading : List ℕ → List ℕ → Control → Loaded
+loading t s c = loadedBy (judgeLoad t s) t s c

@@ -1,0 +1,62 @@
+-- The records of an accepted tape are as the loader relies on: each block lies within the store, and there is a good control record. Assumes nothing.
+use Prim.Native.Nat.{ℕ, _+_, _≤_, _<_}
+use mathlib.Core.Path.{_≡_}
+use mathlib.Core.Bool.{Bool, true, false}
+use mathlib.Core.List.{List}
+use native.Mathlib.Omega.{arith}
+use native.Mathlib.Decide.{ℕ-discrete}
+use borrow.Author.Tests.{ne-eqb}
+use lib.ListN.{length}
+use lib.Dec.{eqb}
+use Rattle.definition_tape.specs.Layout.{lengthOf, kindOf, payloadOf, restOf, recordsOf, firstOf}
+use Rattle.definition_tape.specs.Judge.{controlGood}
+use Rattle.definition_tape.proofs.Records.{length-rest, records-none, records-more}
+use Rattle.definition_tape.proofs.Firsts.{first-here, first-next}
+use Rattle.definition_tape.proofs.Judged.{Good, Judged, last, more, block-length, block-payload, control-length, control-payload, no-end}
+use Rattle.tape_load.specs.Fits.{RecordFits, RecordsFit, ControlThere}
+
+record-fits : {n : ℕ} {after : Bool} {t : List ℕ} → Good n after t → RecordFits n t
+record-fits {n} {after} {t} g =
+    record {
+      whole = g .whole;
+      block =
+          λ e.
+          let l = block-length (lengthOf t) (rw e at (g .size)) in
+          let p = block-payload n (payloadOf t) (rw e at (g .payload)) in
+          (omega arith, p .0);
+    }
+
+pub fits-none : (n : ℕ) (t : List ℕ) → length t < 6 → RecordsFit n (recordsOf t)
+unfolding RecordsFit
+fits-none n t h = rw (records-none t h) tt
+
+fits-more : (n : ℕ) (t : List ℕ) → 6 ≤ length t → RecordFits n t → RecordsFit n (recordsOf (restOf t)) → RecordsFit n (recordsOf t)
+unfolding RecordsFit
+fits-more n t h f r = rw (records-more t h) (f, r)
+
+pub fits-split : (n : ℕ) (t : List ℕ) → 6 ≤ length t → RecordsFit n (recordsOf t) → RecordFits n t × RecordsFit n (recordsOf (restOf t))
+unfolding RecordsFit
+fits-split n t h r = rw (records-more t h) at r
+
+pub records-fit : {n : ℕ} {after : Bool} {t : List ℕ} → Judged n after t → RecordsFit n (recordsOf t)
+records-fit {n} {after} {t} (last g k h) =
+    let w = g .whole in
+    fits-more n t (omega arith) (record-fits g) (fits-none n (restOf t) (omega (arith, length-rest t)))
+records-fit {n} {after} {t} (more g k j) = let w = g .whole in fits-more n t (omega arith) (record-fits g) (records-fit j)
+
+-- ---- an accepted tape has a control record, and it is good
+abbrev pub ControlGood : List ℕ → Type 0
+ControlGood t = ControlThere t × (controlGood (payloadOf t) ≡ true)
+
+control-here : (n : ℕ) (after : Bool) (t : List ℕ) → Good n after t → kindOf t ≡ 2 → ControlGood t
+control-here n after t g e =
+    let l = control-length (lengthOf t) (rw e at (g .size)) in
+    (record { whole = g .whole; size = omega arith }, control-payload n (payloadOf t) (rw e at (g .payload)))
+
+pub control-there : {n : ℕ} {after : Bool} {t : List ℕ} → Judged n after t → after ≡ false → ControlGood (firstOf 2 (recordsOf t))
+control-there {n} {after} {t} (last g k h) a = absurd (no-end n after t g k a)
+control-there {n} {after} {t} (more g k j) a = at (ℕ-discrete (kindOf t) 2) (control-there j)
+  where
+    at : Dec (kindOf t ≡ 2) → (eqb (kindOf t) 2 ≡ false → ControlGood (firstOf 2 (recordsOf (restOf t)))) → ControlGood (firstOf 2 (recordsOf t))
+    at (yes e) ih = let w = g .whole in rw (first-here 2 t (omega arith) e) (control-here n after t g e)
+    at (no e) ih = let w = g .whole in rw (first-next 2 t (omega arith) e) (ih (ne-eqb (kindOf t) 2 e))

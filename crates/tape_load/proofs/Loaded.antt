@@ -1,0 +1,92 @@
+-- The loader's functions: cells copied, one record, the loop, the ways out. Assumes nothing.
+use Prim.Native.Nat.{ℕ, suc, _+_, _-_, _≤_, _<_}
+use mathlib.Core.Path.{_≡_, refl, sym, ap, _∙_}
+use mathlib.Core.List.{List, _++_, append-nil}
+use native.Mathlib.Numerals.{add-one}
+use native.Mathlib.Omega.{arith}
+use borrow.Author.Tests.{eq-eqb, ne-eqb}
+use lib.ListN.{length, take, drop, getD, set, length-take, length-drop, drop-of-length-le}
+use lib.Seq.{take-suc, drop-cons, drop-drop, set-at, append-snoc, take-all}
+use Rattle.machine.specs.declared.Control.{Control}
+use Rattle.machine.specs.declared.Refusal.{Refusal}
+use Rattle.machine.specs.declared.Verdict.{Verdict}
+use Rattle.machine.specs.declared.Verdict.the-variants.{Accepted, Rejected}
+use Rattle.definition_tape.specs.Layout.{lengthOf, kindOf, payloadOf, restOf, recordsOf, firstCell, cellCount, blockCells}
+use Rattle.definition_tape.specs.Load.{pasted, storedBlock, loadRecord, loadRecords, loadedControl, judgeLoad, loading}
+use Rattle.definition_tape.proofs.Records.{tail, length-tail, length-payload}
+use Rattle.definition_tape.proofs.Loads.{load-more, load-none}
+use Rattle.tape_load.specs.Fits.{RecordFits, RecordsFit, ControlThere}
+use Rattle.tape_load.proofs.Fits.{fits-split}
+
+-- i cells of cs over the first ones of d, and one more
+pub paste-more : (d cs : List ℕ) (i x : ℕ) → i < length d → i < length cs → x ≡ getD cs i 0
+    → set (take i cs ++ drop i d) i x ≡ take (i + 1) cs ++ drop (i + 1) d
+paste-more d cs i x h l e =
+    let n : length (take i cs) ≡ i = simp length-take (omega arith) in
+    rw (add-one i, drop-cons d i 0 h, take-suc cs i 0 l, ← e)
+    (set-at (take i cs) (getD d i 0) (drop (suc i) d) x i n ∙ sym (append-snoc (take i cs) x (drop (suc i) d)))
+
+pub paste-all : (d cs r : List ℕ) (i : ℕ) → i ≡ length cs → r ≡ take i cs ++ drop i d → r ≡ pasted d cs
+unfolding pasted
+paste-all d cs r i e h = h ∙ rw (e, take-all (length cs) cs (omega arith))
+
+-- `&mut s[i..]` is lent as `take (n - i) (drop i s)`, n being the length, and comes back between `take i s` and `drop (n - i) (drop i s)`
+pub stored-back : (s cs : List ℕ) (i : ℕ)
+    → take i s ++ (pasted (take (length s - i) (drop i s)) cs ++ drop (length s - i) (drop i s)) ≡ storedBlock s i cs
+unfolding storedBlock
+stored-back s cs i =
+    let l : length (drop i s) ≤ length s - i = simp length-drop (omega arith) in
+    rw (take-all (length s - i) (drop i s) l, drop-of-length-le (drop i s) l, append-nil)
+
+pub load-fits : (n k : ℕ) (t p : List ℕ) → RecordFits n t → k ≡ kindOf t → k ≡ 1 → p ≡ payloadOf t → (4 ≤ length p) × (firstCell p + cellCount p ≤ n)
+load-fits n k t p f e o q = let b = f .block (sym e ∙ o) in rw q (omega (arith, length-payload t (f .whole)), b .1)
+
+pub a-block : (k : ℕ) (s t p r : List ℕ) → k ≡ kindOf t → k ≡ 1 → p ≡ payloadOf t → r ≡ storedBlock s (firstCell p) (blockCells p) → r ≡ loadRecord s t
+unfolding loadRecord
+a-block k s t p r e o q i = rw (eq-eqb (kindOf t) 1 (sym e ∙ o), ← q) i
+
+pub no-block : (k : ℕ) (s t : List ℕ) → k ≡ kindOf t → (k ≡ 1 → ⊥) → s ≡ loadRecord s t
+unfolding loadRecord
+no-block k s t e o = rw (ne-eqb (kindOf t) 1 (λ z. o (e ∙ z)))
+
+pub control-size : (t p : List ℕ) → ControlThere t → p ≡ payloadOf t → 20 ≤ length p
+control-size t p h q = rw q (omega (arith, length-payload t (h .whole), h .size))
+
+-- ---- the loader at the place `at` of a tape
+module _ (n : ℕ) (s t : List ℕ) (at : ℕ) (h : 6 ≤ length t - at) (f : RecordsFit n (recordsOf (drop at t))) where
+  header : 6 ≤ length (drop at t)
+  header = rw (length-drop at t) h
+
+  pub fits-at : RecordFits n (take (length t - at) (drop at t))
+  fits-at = rw (tail at t) (fits-split n (drop at t) header f .0)
+
+  pub inside-at : (r : ℕ) → r ≡ 6 + lengthOf (take (length t - at) (drop at t)) → (6 ≤ r) × (at + r ≤ length t)
+  inside-at r e =
+      let w = fits-at .whole in
+      let l = length-tail at t in
+      (omega arith, omega arith)
+
+  rest-at : (r : ℕ) → r ≡ 6 + lengthOf (take (length t - at) (drop at t)) → restOf (drop at t) ≡ drop (at + r) t
+  unfolding restOf
+  rest-at r e = drop-drop (6 + lengthOf (drop at t)) at t ∙ ap (λ (j : ℕ). drop (at + j) t) (sym (rw (tail at t) at e))
+
+  pub fits-on : (r : ℕ) → r ≡ 6 + lengthOf (take (length t - at) (drop at t)) → RecordsFit n (recordsOf (drop (at + r) t))
+  fits-on r e = rw (← rest-at r e) (fits-split n (drop at t) header f .1)
+
+  pub load-on : (r : ℕ) (s′ : List ℕ) → r ≡ 6 + lengthOf (take (length t - at) (drop at t)) → s′ ≡ loadRecord s (take (length t - at) (drop at t))
+      → loadRecords s′ (recordsOf (drop (at + r) t)) ≡ loadRecords s (recordsOf (drop at t))
+  load-on r s′ e d = rw (← rest-at r e, rw (tail at t) at d) (sym (load-more s (drop at t) header))
+
+pub load-end : (s t : List ℕ) (at : ℕ) → length t - at < 6 → s ≡ loadRecords s (recordsOf (drop at t))
+load-end s t at h = sym (load-none s (drop at t) (rw (length-drop at t) h))
+
+-- ---- the loader's ways out
+module _ (t s : List ℕ) (c : Control) (v : Verdict) (e : v ≡ judgeLoad t s) where
+  pub load-accepted : (s′ : List ℕ) (c′ : Control) → v ≡ Accepted → s′ ≡ loadRecords s (recordsOf t) → c′ ≡ loadedControl t
+      → (record { control = c′; verdict = Accepted } ≡ loading t s c .state) × (s′ ≡ loading t s c .cells)
+  unfolding loading
+  load-accepted s′ c′ a f g = rw (← e, a, g) (refl, f)
+
+  pub load-refused : (r : Refusal) → v ≡ Rejected r → (record { control = c; verdict = Rejected r } ≡ loading t s c .state) × (s ≡ loading t s c .cells)
+  unfolding loading
+  load-refused r a = rw (← e, a) (refl, refl)

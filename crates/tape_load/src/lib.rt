@@ -1,0 +1,104 @@
+// The loader of tapes (document 01, "Load tape"): the whole tape is judged before a cell changes.
+ghost use mathlib.Core.Path.{_≡_};
+ghost use Prim.Native.Nat.{_+_, _*_, _≤_};
+ghost use lib.ListN.{length};
+ghost use Rattle.definition_tape.specs.Layout.{lengthOf, recordsOf, firstOf, firstCell, cellCount, cellsFrom, blockCells};
+ghost use Rattle.definition_tape.specs.Load.{pasted, storedBlock, loadRecord, loadRecords, loadedControl, judgeLoad, loading};
+ghost use Rattle.tape_load.specs.Fits.{RecordFits, RecordsFit, ControlThere};
+use machine::Control;
+use machine::State;
+use machine::Verdict;
+use tape_records::control_of;
+use tape_records::number_at;
+use tape_records::payload;
+use tape_records::record_kind;
+use tape_records::record_length;
+
+// The k cells of a block's payload, written over the first k of dst.
+fn copy_cells(dst: &mut [u32], p: &[u8], k: usize)
+    requires { ⌜ (k ≤ length (now dst)) × (4 + 4 * k ≤ length (now p)) ⌝ }
+    ensures { λ _. ⌜ now (dst .exit) ≡ pasted (now (dst .entry)) (cellsFrom (now (p .entry)) 4 k) ⌝ }
+{
+    let mut i: usize = 0;
+    while i < k {
+        dst[i] = number_at(p, 4 + 4 * i);
+        i += 1;
+    }
+}
+
+// A block goes into the part of the store that begins at its first cell.
+fn load_block(store: &mut [u32], p: &[u8])
+    requires { ⌜ (4 ≤ length (now p)) × (firstCell (now p) + cellCount (now p) ≤ length (now store)) ⌝ }
+    ensures { λ _. ⌜ now (store .exit) ≡ storedBlock (now (store .entry)) (firstCell (now (p .entry))) (blockCells (now (p .entry))) ⌝ }
+{
+    let first = number_at(p, 0) as usize;
+    let k = (p.len() - 4) / 4;
+    copy_cells(&mut store[first..], p, k);
+}
+
+// The record at the start of t; the answer is the number of its bytes.
+fn load_record(store: &mut [u32], t: &[u8]) -> usize
+    requires { ⌜ RecordFits (length (now store)) (now t) ⌝ }
+    ensures next { λ r. ⌜ r ≡ 6 + lengthOf (now (t .entry)) ⌝ }
+    ensures cells { λ _. ⌜ now (store .exit) ≡ loadRecord (now (store .entry)) (now (t .entry)) ⌝ }
+{
+    let next = 6 + record_length(t);
+    if record_kind(t) == 1 {
+        let p = payload(t);
+        load_block(store, p);
+    }
+    next
+}
+
+fn load_records(store: &mut [u32], tape: &[u8])
+    requires { ⌜ RecordsFit (length (now store)) (recordsOf (now tape)) ⌝ }
+    ensures { λ _. ⌜ now (store .exit) ≡ loadRecords (now (store .entry)) (recordsOf (now (tape .entry))) ⌝ }
+{
+    let mut at: usize = 0;
+    while 6 <= tape.len() - at {
+        let n = load_record(store, &tape[at..]);
+        at += n;
+    }
+}
+
+// The control record of an accepted tape.
+fn loaded_control(tape: &[u8]) -> Control
+    requires { ⌜ ControlThere (firstOf 2 (recordsOf (now tape))) ⌝ }
+    ensures { λ r. ⌜ r ≡ loadedControl (now (tape .entry)) ⌝ }
+{
+    let t = tape_records::hunt(tape, 2);
+    let p = payload(t);
+    control_of(p)
+}
+
+fn judge_load(tape: &[u8], store: &[u32]) -> Verdict
+    ensures { λ r. ⌜ r ≡ judgeLoad (now (tape .entry)) (now (store .entry)) ⌝ }
+{
+    let v = acceptance::judge_store(store);
+    match v {
+        Verdict::Accepted => tape_judge::judge_tape(tape, store.len()),
+        Verdict::Rejected(r) => Verdict::Rejected(r),
+    }
+}
+
+// Loads a tape. On a refusal nothing changes, and the given control record comes back.
+pub fn load(store: &mut [u32], control: Control, tape: &[u8]) -> State
+    ensures state { λ r. ⌜ r ≡ loading (now (tape .entry)) (now (store .entry)) control .state ⌝ }
+    ensures cells { λ _. ⌜ now (store .exit) ≡ loading (now (tape .entry)) (now (store .entry)) control .cells ⌝ }
+{
+    let v = judge_load(tape, store);
+    match v {
+        Verdict::Accepted => {
+            load_records(store, tape);
+            let c = loaded_control(tape);
+            State {
+                control: c,
+                verdict: Verdict::Accepted,
+            }
+        }
+        Verdict::Rejected(r) => State {
+            control: control,
+            verdict: Verdict::Rejected(r),
+        },
+    }
+}
