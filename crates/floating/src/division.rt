@@ -1,6 +1,7 @@
 // Divide Floating: the loop on AF and BF.
 ghost use mathlib.Core.Path.{_≡_};
 ghost use Prim.Native.Nat.{_+_, _^_, _<_};
+ghost use Rattle.registers.specs.Reg.{iter};
 ghost use Rattle.floating.specs.Divide.{fdStart, fdAdd, fdStep, fdLoop, fdResult, divideFloating};
 use super::Operands;
 use super::accumulator;
@@ -64,12 +65,24 @@ fn step(x: u64, q: Quotient) -> Quotient
     }
 }
 
+// The first 35 passes: BF(0) and BF(1) are still as at the start, and equal, so none of these is the last (`proofs/Passes.antt`).
+fn first_passes(x: u64, af: u64) -> Quotient
+    requires { ⌜ (x < 2 ^ 39) × (af < 2 ^ 39) ⌝ }
+    ensures { λ r. ⌜ (r ≡ iter (fdStep x) 35 (fdStart x af)) × (r .af < 2 ^ 39) × (r .bf < 2 ^ 36) × (r .digit < 2) × (r .passes ≡ 35) ⌝ }
+{
+    let mut q = start(x, af);
+    for i in 0u32..35 {
+        q = step(x, q);
+    }
+    q
+}
+
 fn divide_loop(x: u64, af: u64) -> Quotient
     requires { ⌜ (x < 2 ^ 39) × (af < 2 ^ 39) ⌝ }
     ensures { λ r. ⌜ (r ≡ fdLoop x af) × (r .af < 2 ^ 39) × (r .bf < 2 ^ 36) × (r .passes < 72) ⌝ }
 {
-    let mut q = start(x, af);
-    for i in 0u32..71 {
+    let mut q = first_passes(x, af);
+    for i in 35u32..71 {
         if q.bf / 34359738368 != q.bf / 17179869184 % 2 {
             return q;
         }

@@ -2,6 +2,7 @@ use native.Mathlib.Omega.{arith}
 use mathlib.Core.Bool.{not}
 use Rattle.floating.specs.Divide.{fdStep, fdStop, fdLoop}
 use borrow.Author.Tests.{eq-eqb, ne-eqb}
+use Rattle.floating.proofs.Passes.{first-passes}
 use Rattle.registers.proofs.Loops.{until-stop, until-next, until-out}
 use Rattle.registers.specs.Reg.{until}
 use Prim.Native.Nat.{_-_, _^_, _≤_, _<_}
@@ -16,12 +17,11 @@ Inv-loop x af q₀ i₀ q i = (i ≤ 71) × (q .af < 2 ^ 39) × (q .bf < 2 ^ 36)
 abbrev μ-loop : tie.MeasureT-loop
 μ-loop x af q₀ i₀ q i = 71 - i
 
-start-requires : tie.Need-start-requires Inv-loop μ-loop
-start-requires c κs = search needs
+first-passes-requires : tie.Need-first-passes-requires Inv-loop μ-loop
+first-passes-requires c κs = search needs
 
 loop-holds : tie.Need-loop-holds Inv-loop μ-loop
-unfolding fdLoop
-loop-holds c = (search needs, search needs, search needs, search needs, search needs, ap (until fdStop (fdStep _) 71) (c .start .ensures .0))
+loop-holds c = (search needs, search needs, search needs, search needs, search needs, first-passes _ _ _ (c .first-passes .ensures .0))
 
 returns : tie.Need-returns Inv-loop μ-loop
 returns c = (
@@ -61,7 +61,7 @@ divide-loop-spec =
     (tie.spec
     Inv-loop
     μ-loop
-    start-requires
+    first-passes-requires
     loop-holds
     returns
     step-requires
