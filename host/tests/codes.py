@@ -41,7 +41,7 @@ def in_coverage(text):
 
 
 LISTS = {
-    "crates/definition*/specs/Codes.antt": (in_definition, "code 3 HL", "code 3 HX"),
+    "crates/definition_instructions/specs/Codes.antt": (in_definition, "code 3 HL", "code 3 HX"),
     "crates/dispatch/src/lib.rt": (in_dispatch, "::hl(", "::hx("),
     "tools/tape.py": (in_tape_maker, " HL ", " HX "),
     "host/compare/src/coverage.rs": (in_coverage, '"HL"', '"HX"'),

@@ -87,8 +87,8 @@ pub carry-law : CarryLaw
 carry-law n c a b hc = carry-is a b c hc n
 
 -- ---- signed, shiftleft, not, and differences
-extend : (s x p m : ℕ) → s * p + (x + s * m) ≡ x + s * (p + m)
-extend s x p m = omega arith
+sign-added : (s x p m : ℕ) → s * p + (x + s * m) ≡ x + s * (p + m)
+sign-added s x p m = omega arith
 
 pub signed-law : SignedLaw
 unfolding extension
@@ -97,7 +97,7 @@ signed-law n (suc d) x =
     let w : 2 ^ (n + suc d) ≡ 2 * 2 ^ (n + d) = rw (add-suc n d) (omega arith) in
     let l : 2 ^ n ≤ 2 ^ (n + d) = pow-mono {i = n} {j = n + d} (omega arith) in
     let k : 2 * 2 ^ (n + d) - 2 ^ n ≡ 2 ^ (n + d) + (2 ^ (n + d) - 2 ^ n) = omega arith in
-    rw (signed-law n d x, w, k) (extend (sign n x) x (2 ^ (n + d)) (2 ^ (n + d) - 2 ^ n))
+    rw (signed-law n d x, w, k) (sign-added (sign n x) x (2 ^ (n + d)) (2 ^ (n + d) - 2 ^ n))
 
 pub shift-left-law : ShiftLeftLaw
 shift-left-law n x =
@@ -212,21 +212,21 @@ two-additions a b ha p hb =
 word-of : (a d : ℕ) → a < 2 ^ 24 → (signed 24 25 a + d * 2 ^ 25) % 2 ^ 24 ≡ a
 word-of a d h = omega arith
 
-even : (d : ℕ) → (2 * d % 2 + 4 * d % 2) % 2 ≡ 0
-even d = omega arith
+even-places : (d : ℕ) → (2 * d % 2 + 4 * d % 2) % 2 ≡ 0
+even-places d = omega arith
 
-odd : (d : ℕ) → ((2 * d + 1) % 2 + (4 * d + 3) % 2) % 2 ≡ 0
-odd d = omega arith
+odd-places : (d : ℕ) → ((2 * d + 1) % 2 + (4 * d + 3) % 2) % 2 ≡ 0
+odd-places d = omega arith
 
 equal-signs : (a d : ℕ) → a < 2 ^ 24 → ((signed 24 25 a + d * 2 ^ 25) / 2 ^ 24 % 2 + (signed 24 25 a + d * 2 ^ 25) / 2 ^ 23 % 2) % 2 ≡ 0
 equal-signs a d h =
     elim (decLt a (2 ^ 23)) [
       | yes l ↦ (let q : a / 2 ^ 23 ≡ 0 = omega arith in
           let x : (signed 24 25 a + d * 2 ^ 25) / 2 ^ 24 ≡ 2 * d = omega arith in
-          let y : (signed 24 25 a + d * 2 ^ 25) / 2 ^ 23 ≡ 4 * d = omega arith in rw (x, y) (even d))
+          let y : (signed 24 25 a + d * 2 ^ 25) / 2 ^ 23 ≡ 4 * d = omega arith in rw (x, y) (even-places d))
       | no n ↦ (let q : a / 2 ^ 23 ≡ 1 = omega arith in
           let x : (signed 24 25 a + d * 2 ^ 25) / 2 ^ 24 ≡ 2 * d + 1 = omega arith in
-          let y : (signed 24 25 a + d * 2 ^ 25) / 2 ^ 23 ≡ 4 * d + 3 = omega arith in rw (x, y) (odd d))
+          let y : (signed 24 25 a + d * 2 ^ 25) / 2 ^ 23 ≡ 4 * d + 3 = omega arith in rw (x, y) (odd-places d))
     ]
 
 pub two-additions-of-zero : TwoAdditionsOfZero

@@ -12,7 +12,7 @@ use Rattle.floating.specs.declared.division.Quotient.{Quotient}
 use Rattle.floating.specs.Operands.{fraction, registerFraction, storageFraction, signedSF}
 use Rattle.arithmetic_promises.specs.Claims.{DividePasses}
 use Rattle.floating.specs.Divide.{fdStart, fdStep, fdStop, fdLoop}
-use Rattle.floating.proofs.Passes.{Filled, starts, keeps, few}
+use Rattle.floating.proofs.Passes.{Filled, filled-start, filled-step, bits-equal}
 use Rattle.arithmetic_promises.proofs.Ends.{divide-ends}
 
 -- at most n passes more
@@ -29,7 +29,7 @@ enough : (q : Quotient) → fdStop q ≡ true → Filled q → 35 ≤ q .passes
 enough q e h =
     elim (decLe 35 (q .passes)) [
       | yes l ↦ l
-      | no n ↦ ⊎-elim (λ l. l) (λ r. absurd (eqb-false _ _ (not-true _ e) (few (q .bf) (q .passes) (omega arith) r))) (h .bits)
+      | no n ↦ ⊎-elim (λ l. l) (λ r. absurd (eqb-false _ _ (not-true _ e) (bits-equal (q .bf) (q .passes) (omega arith) r))) (h .bits)
     ]
 
 pub divide-passes : DividePasses
@@ -37,6 +37,6 @@ unfolding fdLoop
 divide-passes pre word first second hp hw hf hs n =
     let x : ℕ = signedSF (storageFraction (fraction first second)) in
     let af : ℕ = registerFraction (fraction pre word) in (
-      enough (fdLoop x af) (divide-ends pre word first second hp hw hf hs n) (until-keep fdStop (fdStep x) Filled (λ q e. keeps x q) 71 (fdStart x af) (starts x af .0)),
-      omega (arith, at-most x 71 (fdStart x af), starts x af .1),
+      enough (fdLoop x af) (divide-ends pre word first second hp hw hf hs n) (until-keep fdStop (fdStep x) Filled (λ q e. filled-step x q) 71 (fdStart x af) (filled-start x af .0)),
+      omega (arith, at-most x 71 (fdStart x af), filled-start x af .1),
     )

@@ -146,8 +146,8 @@ add-1 : (a l c : ℕ) → a * c ≡ 2 ^ 23 → (1 * a + l) * c ≡ l * c + 2 ^ 2
 add-1 a l c h = omega arith
 
 module _ (R : ℕ → ℕ → ℕ → Type 0) (x w : ℕ) (hw : w < 2 ^ 24) (start : R 0 w w)
-    (even : (z h p : ℕ) → z < 2 ^ 23 → h < 2 ^ 24 → R (2 * z) h p → h % 2 ≡ 0 → R z (h / 2) (wmStep x p))
-    (odd : (z h p : ℕ) → z < 2 ^ 23 → h < 2 ^ 24 → R (2 * z) h p → h % 2 ≡ 1 → R (z + 2 ^ 23) (h / 2) (wmStep x p)) where
+    (zero-bit : (z h p : ℕ) → z < 2 ^ 23 → h < 2 ^ 24 → R (2 * z) h p → h % 2 ≡ 0 → R z (h / 2) (wmStep x p))
+    (one-bit : (z h p : ℕ) → z < 2 ^ 23 → h < 2 ^ 24 → R (2 * z) h p → h % 2 ≡ 1 → R (z + 2 ^ 23) (h / 2) (wmStep x p)) where
   row : (i e : ℕ) → i + e ≡ 24 → R (w % 2 ^ i * 2 ^ e) (w / 2 ^ i) (iter (wmStep x) i w)
   unfolding iter
   row zero e h = subst₂ (λ (y n : ℕ). R y n w) (sym (ap (λ (n : ℕ). n * 2 ^ e) (mod-one w) ∙ zero-mul (2 ^ e))) (sym (div-one w)) start
@@ -167,12 +167,12 @@ module _ (R : ℕ → ℕ → ℕ → Type 0) (x w : ℕ) (hw : w < 2 ^ 24) (sta
                 subst₂ (λ (y n : ℕ). R y n (wmStep x (iter (wmStep x) i w)))
                 (sym (ap (λ (n : ℕ). n * 2 ^ e) (done-next w i ∙ ap (λ (b : ℕ). b * 2 ^ i + w % 2 ^ i) z) ∙ add-0 (2 ^ i) (w % 2 ^ i) (2 ^ e)))
                 (sym (left-next w i))
-                (even (w % 2 ^ i * 2 ^ e) (w / 2 ^ i) _ (done-lt w i e f) l q z))
+                (zero-bit (w % 2 ^ i * 2 ^ e) (w / 2 ^ i) _ (done-lt w i e f) l q z))
             | no b ↦ (let z : w / 2 ^ i % 2 ≡ 1 = omega arith in
                 subst₂ (λ (y n : ℕ). R y n (wmStep x (iter (wmStep x) i w)))
                 (sym (ap (λ (n : ℕ). n * 2 ^ e) (done-next w i ∙ ap (λ (b : ℕ). b * 2 ^ i + w % 2 ^ i) z) ∙ add-1 (2 ^ i) (w % 2 ^ i) (2 ^ e) (place i e f)))
                 (sym (left-next w i))
-                (odd (w % 2 ^ i * 2 ^ e) (w / 2 ^ i) _ (done-lt w i e f) l q z))
+                (one-bit (w % 2 ^ i * 2 ^ e) (w / 2 ^ i) _ (done-lt w i e f) l q z))
           ]
 
 -- ARBR after 23 steps

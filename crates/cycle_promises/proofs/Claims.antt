@@ -51,7 +51,7 @@ reset-pressed : (m : Computer) → Valid m → ResetPressed m (resetSystem (m .c
 unfolding resetSystem resetRecord
 reset-pressed m h =
     record {
-      stored = word-same (m .cells) 5 (m .control .ic) (omega (arith, h .least)) ∙ mod-eq-of-lt (h .widths .ic);
+      word10 = word-same (m .cells) 5 (m .control .ic) (omega (arith, h .least)) ∙ mod-eq-of-lt (h .widths .ic);
       state = (refl, record { monitor = refl; disabled = refl; pending = refl });
       cells = same-put returnAddress (m .cells) (m .control .ic);
       kept = (refl, refl, record { im = refl; pr = refl; ex = refl });

@@ -45,7 +45,7 @@ pub record InMonitor (c : Control) : Type 0 where
 
 -- reset stores IC in word 10, clears the pending modification and sets the reset state
 pub record ResetPressed (m n : Computer) : Type 0 where
-  pub stored : word (n .cells) (returnAddress / 2) ≡ m .control .ic
+  pub word10 : word (n .cells) (returnAddress / 2) ≡ m .control .ic
   pub state : (n .control .reset ≡ true) × InMonitor (n .control)
   pub cells : SameCells returnAddress returnAddress (m .cells) (n .cells)
   pub kept : (n .control .ic ≡ m .control .ic) × (n .control .ir ≡ m .control .ir) × SameRegisters (m .control) (n .control)

@@ -45,7 +45,7 @@ equal-sym h =
 pub equal-fewer : {k : ℕ} (j : ℕ) {m n : Computer} → k ≤ j → EqualProtected k m n → EqualProtected j m n
 equal-fewer j l h = record { size = h .size; keys = h .keys; pr = h .pr; im = h .im; words = λ i b f. h .words i (omega arith) f }
 
--- a word is wordStored where nothing is protected
+-- a word is stored where nothing is protected
 pub equal-put : (k : ℕ) (m : Computer) (i v : ℕ) → ((j : ℕ) → k ≤ 2 * j → forbiddenIn m j ≡ true → j ≢ i)
     → EqualProtected k m (computer (putWord (m .cells) i v) (m .control))
 equal-put k m i v h =

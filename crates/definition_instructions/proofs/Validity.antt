@@ -108,11 +108,11 @@ valid-accepted m h =
 
 pub record Live (m : Computer) : Type 0 where
   pub valid : Valid m
-  pub running : m .control .reset ≡ false
+  pub outside : m .control .reset ≡ false
 
-pub state-running : (c : Control) → c .reset ≡ false → stateFits c ≡ true
+pub state-outside : (c : Control) → c .reset ≡ false → stateFits c ≡ true
 unfolding stateFits
-state-running c q = ap (λ (r : Bool). cond r (cond (c .monitor) (not (c .enabled)) false) true) q
+state-outside c q = ap (λ (r : Bool). cond r (cond (c .monitor) (not (c .enabled)) false) true) q
 
 pub valid-put : (i v : ℕ) (n : Computer) → Valid n → Valid (computer (putWord (n .cells) i v) (n .control))
 valid-put i v n h =
@@ -125,7 +125,7 @@ valid-put i v n h =
     }
 
 pub live-put : (i v : ℕ) (n : Computer) → Live n → Live (computer (putWord (n .cells) i v) (n .control))
-live-put i v n h = record { valid = valid-put i v n (h .valid); running = h .running }
+live-put i v n h = record { valid = valid-put i v n (h .valid); outside = h .outside }
 
 live-key : (i k : ℕ) (n : Computer) → Live n → Live (computer (putKey (n .cells) i k) (n .control))
 live-key i k n h =
@@ -138,7 +138,7 @@ live-key i k n h =
             widths = h .valid .widths;
             state = h .valid .state;
           };
-      running = h .running;
+      outside = h .outside;
     }
 
 pub valid-control : (n : Computer) (c : Control) → Widths c → stateFits c ≡ true → Valid n → Valid (computer (n .cells) c)
@@ -146,7 +146,7 @@ valid-control n c w r h = record { least = h .least; most = h .most; cells = h .
 
 pub live-control : (n : Computer) (c : Control) → Widths c → c .reset ≡ n .control .reset → Live n → Live (computer (n .cells) c)
 live-control n c w q h =
-    record { valid = valid-control n c w (state-running c (q ∙ h .running)) (h .valid); running = q ∙ h .running }
+    record { valid = valid-control n c w (state-outside c (q ∙ h .outside)) (h .valid); outside = q ∙ h .outside }
 
 live-closed : Closed Live
 unfolding withIC withIR withPending withEX

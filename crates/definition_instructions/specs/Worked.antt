@@ -7,7 +7,6 @@ use mathlib.Core.List.{List, [], _∷_}
 use Rattle.machine.specs.declared.Control.{Control}
 use Rattle.machine.specs.declared.Fault.the-variants.{Unassigned, Absent, Privileged, Store, Jump}
 use Rattle.definition_instructions.specs.Machine.{computer, Channel, machine, ok, fault, resetSystem}
-use Rattle.definition_instructions.specs.Meaning.{HL, DS, RS, RX, WM, WD, CF, JL, JE, JD, PL, None, IO, AW}
 use Rattle.machine.specs.Records.{resetRecord}
 use Rattle.machine.specs.Fields.{inTask, withIC, withIR, withIM, withPending, withPR, withEX, withEnabled, raised, flagsCleared, overflowed, carrySet}
 use Rattle.machine.specs.Store.{word, pair, key, putWord, putKey, byte, withByte, putByte, putLink, absent, forbids, forbidden, violation, firstWord}
@@ -21,7 +20,7 @@ use Rattle.floating.specs.Convert.{cfEnd, cfByPlaces, cf}
 use Rattle.floating.specs.Operands.{fetchFloating}
 use Rattle.definition_instructions.specs.Channel.{disconnected, deviceBuffer, readFrom, writeTo, fourLeft, shiftedIn, assembled}
 use Rattle.definition_instructions.specs.Codes.{execute, executeDevice}
-use Rattle.definition_instructions.specs.Meaning.{meaning, commanded, rejection, autoloading, deviceMeaning}
+use Rattle.definition_instructions.specs.Meaning.{HL, DS, RS, RX, WM, WD, CF, JL, JE, JD, PL, None, IO, AW, meaning, commanded, rejection, autoloading, deviceMeaning}
 use Rattle.definition_instructions.specs.MicroOps.{skipped, microStep, microSteps, monitorStep, monitorSteps, executeOperation, deviceStep, deviceSteps, executeDeviceOperation}
 
 -- `unfolding opened` unfolds the instructions used here

@@ -52,7 +52,7 @@ valid-code f w sb n l h = code-meets ValidComputer f w sb n (λ o. valid-operati
 
 pub valid-fetch : (n : Machine) → inReset n ≡ false → ValidComputer n → ValidComputer (reached (fetch (n .cells) (n .control) (n .channel)))
 valid-fetch n e h =
-    let live : LiveComputer n = record { valid = h; running = e } in
+    let live : LiveComputer n = record { valid = h; outside = e } in
     fetch-meets ValidComputer n h (valid-stepped n live) (λ v. (live-begun n live .valid, λ w sb l. valid-code _ w sb (begun n) l (live-begun n live)))
 
 pub valid-lined : (m : Machine) → ValidComputer m → ValidComputer (lined m)
@@ -99,7 +99,7 @@ valid-startKey m h =
 
 live-autoload : (m : Machine) → ValidComputer m → Live (computer (m .cells) (autoloadRecord (m .control)))
 unfolding autoloadRecord stateFits
-live-autoload m h = record { valid = valid-control (computerOf m) _ (omega (arith, h .widths)) refl h; running = refl }
+live-autoload m h = record { valid = valid-control (computerOf m) _ (omega (arith, h .widths)) refl h; outside = refl }
 
 pub valid-autoloadKey : (m : Machine) → ValidComputer m → ValidComputer (autoloadKey m)
 unfolding autoloadKey

@@ -30,9 +30,9 @@ use Rattle.definition_instructions.specs.MicroOps.{skipped, microStep, microSte
 use Rattle.definition_runs.specs.GenericRun.{thenRun, run, call, calls}
 use Rattle.definition_runs.specs.Cycle.{bitFromLeft, requested, firstRequest, looksAtLines, lineOf, bitAlone, lineCleared, entryRecord, enter, fetched, relative, indexed, address, indirectAbsent, effectiveAddress, executeInstruction, fetchRecord, decode, fetch, concluded, cycle}
 use Rattle.definition_runs.specs.Keys.{resetKey, startRecord, startKey, autoloadRecord, autoloadKey, pressingReset, pressingStart, pressingAutoload}
-use Rattle.definition_runs.specs.Run.{running, runMachine, runList}
+use Rattle.definition_runs.specs.Run.{runCycles, runMachine, runList}
 use Rattle.definition_runs.specs.Lent.{handedBack, runLent, keyHandedBack, autoloadLent}
 
 unfoldable pub opened : ℕ
-unfolding inTask withIC withIR withIM withPending withPR withEX withEnabled raised flagsCleared overflowed carrySet instructionFields resetRecord word pair key putWord putKey byte withByte putByte putLink absent forbids forbidden violation firstWord sizeFits cellFits cellsFit stateFits controlFits judgeStore judgeMachine characterFits charactersFit devicesFit judgeRun judgeAutoload iter until each logicalAnd logicalOr logicalXor cleared isHigh isLow isEqual isNotEqual bitsOne bitsZero sum difference sumWithCarry differenceWithCarry sum24 wmStep wmLast wm wdStep wdLoop abs24 wdSign wdCorrection wdEnd wd places leftStep arithmetic logical normalize normalized ci afLeft leftShifts normalizeOnce normalizeRound precise roundStore faSum faNegligible faAlign faByDifference addFloating fa fs cfEnd cfByPlaces cf fdStart fdAdd fdLoop divideFloating fd fmStep fmEnd fmLoop multiplyFloating fm fetchFloating registersOf disconnected deviceBuffer readFrom writeTo fourLeft shiftedIn assembled codes lookup execute executeDevice executeCode resetSystem meaning commanded rejection autoloading deviceMeaning skipped microStep microSteps monitorStep monitorSteps executeOperation deviceStep deviceSteps executeDeviceOperation signedByte call bitFromLeft requested firstRequest looksAtLines lineOf bitAlone lineCleared entryRecord enter fetched relative indexed address indirectAbsent effectiveAddress executeInstruction fetchRecord decode fetch concluded cycle resetKey startRecord startKey autoloadRecord autoloadKey pressingReset pressingStart pressingAutoload thenRun run calls running runMachine runList handedBack runLent keyHandedBack autoloadLent
+unfolding inTask withIC withIR withIM withPending withPR withEX withEnabled raised flagsCleared overflowed carrySet instructionFields resetRecord word pair key putWord putKey byte withByte putByte putLink absent forbids forbidden violation firstWord sizeFits cellFits cellsFit stateFits controlFits judgeStore judgeMachine characterFits charactersFit devicesFit judgeRun judgeAutoload iter until each logicalAnd logicalOr logicalXor cleared isHigh isLow isEqual isNotEqual bitsOne bitsZero sum difference sumWithCarry differenceWithCarry sum24 wmStep wmLast wm wdStep wdLoop abs24 wdSign wdCorrection wdEnd wd places leftStep arithmetic logical normalize normalized ci afLeft leftShifts normalizeOnce normalizeRound precise roundStore faSum faNegligible faAlign faByDifference addFloating fa fs cfEnd cfByPlaces cf fdStart fdAdd fdLoop divideFloating fd fmStep fmEnd fmLoop multiplyFloating fm fetchFloating registersOf disconnected deviceBuffer readFrom writeTo fourLeft shiftedIn assembled codes lookup execute executeDevice executeCode resetSystem meaning commanded rejection autoloading deviceMeaning skipped microStep microSteps monitorStep monitorSteps executeOperation deviceStep deviceSteps executeDeviceOperation signedByte call bitFromLeft requested firstRequest looksAtLines lineOf bitAlone lineCleared entryRecord enter fetched relative indexed address indirectAbsent effectiveAddress executeInstruction fetchRecord decode fetch concluded cycle resetKey startRecord startKey autoloadRecord autoloadKey pressingReset pressingStart pressingAutoload thenRun run calls runCycles runMachine runList handedBack runLent keyHandedBack autoloadLent
 opened = 0

@@ -31,8 +31,8 @@ abbrev pub joined : ℕ → Machine → Machine
 joined l m = machine (m .cells) (raised (m .control) l) (m .channel)
 
 -- the cycles of a budget
-unfoldable pub running : ℕ → Machine → RunResult Machine
-running b m = run inReset cycle b m
+unfoldable pub runCycles : ℕ → Machine → RunResult Machine
+runCycles b m = run inReset cycle b m
 
 -- a run with the raised lines l and the budget b
 unfoldable pub runMachine : ℕ → ℕ → Machine → RunResult Machine

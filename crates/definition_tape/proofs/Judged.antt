@@ -37,7 +37,7 @@ good n after t e =
     let d = passed _ _ _ (c .1) in
     record { known = a .0; order = b .0; size = c .0; whole = leb-true (6 + lengthOf t) (length t) (d .0); payload = d .1 }
 
-pub good-back : (n : ℕ) (after : Bool) (t : List ℕ) → Good n after t → judgeRecord n after t ≡ Accepted
+good-back : (n : ℕ) (after : Bool) (t : List ℕ) → Good n after t → judgeRecord n after t ≡ Accepted
 unfolding judgeRecord
 good-back n after t g = rw (g .known, g .order, g .size, le-leb (6 + lengthOf t) (length t) (g .whole)) (g .payload)
 

@@ -5,17 +5,9 @@ use mathlib.Core.Bool.{Bool, true, false, cond}
 use mathlib.Core.List.{List, [], _∷_}
 use native.Mathlib.Omega.{arith}
 use borrow.Author.Tests.{lt-ltb, le-ltb, ltb-false}
-use lib.ListN.{length, take, drop, length-drop, length-take}
-use lib.Seq.{take-all}
+use lib.ListN.{length, length-drop, length-take}
 use lib.Dec.{ltb}
 use Rattle.definition_tape.specs.Layout.{lengthOf, payloadOf, restOf, recordsWithin, recordsOf}
-
--- `&t[n..]` is lent as `take (length t - n) (drop n t)`
-pub tail : (n : ℕ) (t : List ℕ) → take (length t - n) (drop n t) ≡ drop n t
-tail n t = take-all (length t - n) (drop n t) (simp length-drop (omega arith))
-
-pub length-tail : (n : ℕ) (t : List ℕ) → length (take (length t - n) (drop n t)) ≡ length t - n
-length-tail n t = rw (tail n t) (length-drop n t)
 
 pub length-rest : (t : List ℕ) → length (restOf t) ≡ length t - (6 + lengthOf t)
 unfolding restOf

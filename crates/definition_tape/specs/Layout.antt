@@ -1,7 +1,7 @@
 -- The layout of a load tape (document 01, "Load tape"): bytes, records, and the payloads of blocks and control records.
 -- A record is spoken of by the tape from its header on. A byte that is not there reads as 0.
 -- Assumes nothing.
-use Prim.Native.Nat.{ℕ, zero, suc, _+_, _-_, _*_, _/_, _%_}
+use Prim.Native.Nat.{ℕ, zero, suc, _+_, _-_, _*_, _/_, _%_, _≤_, _<_}
 use mathlib.Core.Bool.{cond}
 use mathlib.Core.List.{List, [], _∷_}
 use lib.ListN.{length, take, drop, getD}
@@ -39,6 +39,10 @@ recordsOf t = recordsWithin (suc (length t)) t
 unfoldable pub firstOf : ℕ → List (List ℕ) → List ℕ
 firstOf k [] = []
 firstOf k (t ∷ ts) = let rest = firstOf k ts in cond (eqb (kindOf t) k) t rest
+
+-- a whole record, or none
+abbrev pub Whole : List ℕ → Type 0
+Whole t = 0 < length t → 6 + lengthOf t ≤ length t
 
 -- ---- a block's payload: first cell index (4), then the cells (4 each)
 abbrev pub firstCell : List ℕ → ℕ

@@ -1,4 +1,4 @@
--- The first passes of the loop of Divide Floating. BF starts with 36 bits that are equal; each pass shifts one digit in, so before pass 35 BF(0) = BF(1). Assumes nothing.
+-- The first passes of the loop of Divide Floating. BF starts with 36 bits that are equal; each pass shifts one digit in, so before each of the first 35 passes BF(0) = BF(1). Assumes nothing.
 use mathlib.Core.Path.{_≡_, refl, sym, ap, _∙_}
 use mathlib.Core.Bool.{not}
 use mathlib.Core.Logic.{_⊎_, inl, inr, ⊎-elim}
@@ -18,9 +18,9 @@ pub record Filled (q : Quotient) : Type 0 where
   pub digit : q .digit < 2
   pub bits : (35 ≤ q .passes) ⊎ ((q .bf < 2 ^ q .passes) ⊎ ((2 ^ 36 ≤ q .bf + 2 ^ q .passes) × (q .bf < 2 ^ 36)))
 
-pub starts : (x af : ℕ) → Filled (fdStart x af) × (fdStart x af .passes ≡ 0)
+pub filled-start : (x af : ℕ) → Filled (fdStart x af) × (fdStart x af .passes ≡ 0)
 unfolding fdStart
-starts x af =
+filled-start x af =
     elim (ℕ-discrete (af / 2 ^ 38) (x / 2 ^ 38)) [
       | yes e ↦ rw (eq-eqb _ _ e) (record { digit = omega arith; bits = inr (inl (omega arith)) }, refl)
       | no n ↦ rw (ne-eqb _ _ n) (record { digit = omega arith; bits = inr (inr (omega arith, omega arith)) }, refl)
@@ -36,8 +36,8 @@ ones b d p h l e f =
     let g : b * 2 % 2 ^ 36 + 2 ^ 36 ≡ 2 * b = omega arith in
     (omega (arith, double p), omega arith)
 
-pub keeps : (x : ℕ) (q : Quotient) → Filled q → Filled (fdStep x q)
-keeps x q h =
+pub filled-step : (x : ℕ) (q : Quotient) → Filled q → Filled (fdStep x q)
+filled-step x q h =
     record {
       digit = omega arith;
       bits =
@@ -52,9 +52,9 @@ keeps x q h =
           ];
     }
 
--- before pass 35 BF(0) = BF(1)
-pub few : (b p : ℕ) → p < 35 → (b < 2 ^ p) ⊎ ((2 ^ 36 ≤ b + 2 ^ p) × (b < 2 ^ 36)) → b / 2 ^ 35 ≡ b / 2 ^ 34 % 2
-few b p l h =
+-- before each of the first 35 passes BF(0) = BF(1)
+pub bits-equal : (b p : ℕ) → p < 35 → (b < 2 ^ p) ⊎ ((2 ^ 36 ≤ b + 2 ^ p) × (b < 2 ^ 36)) → b / 2 ^ 35 ≡ b / 2 ^ 34 % 2
+bits-equal b p l h =
     let m : 2 ^ p ≤ 2 ^ 34 = pow-mono {i = p} {j = 34} (omega arith) in
     ⊎-elim
     (λ z. let u : b / 2 ^ 35 ≡ 0 = omega arith in let v : b / 2 ^ 34 ≡ 0 = omega arith in omega arith)
@@ -69,15 +69,15 @@ record First (x af i : ℕ) (q : Quotient) : Type 0 where
 
 first : (x af i : ℕ) → i ≤ 35 → First x af i (iter (fdStep x) i (fdStart x af))
 unfolding fdLoop iter
-first x af zero h = record { filled = starts x af .0; count = starts x af .1; rest = refl }
+first x af zero h = record { filled = filled-start x af .0; count = filled-start x af .1; rest = refl }
 first x af (suc i) h =
     let q : Quotient = iter (fdStep x) i (fdStart x af) in
     let p = first x af i (omega arith) in
     let c = p .count in
     let n : 71 - suc i ≡ 71 - (i + 1) = omega arith in
-    let b : q .bf / 2 ^ 35 ≡ q .bf / 2 ^ 34 % 2 = few (q .bf) (q .passes) (omega arith) (⊎-elim (λ l. absurd (omega arith)) (λ r. r) (p .filled .bits)) in
+    let b : q .bf / 2 ^ 35 ≡ q .bf / 2 ^ 34 % 2 = bits-equal (q .bf) (q .passes) (omega arith) (⊎-elim (λ l. absurd (omega arith)) (λ r. r) (p .filled .bits)) in
     record {
-      filled = keeps x q (p .filled);
+      filled = filled-step x q (p .filled);
       count = omega arith;
       rest = ap (λ (k : ℕ). until fdStop (fdStep x) k (fdStep x q)) n ∙ sym (until-next fdStop (fdStep x) 71 i q (omega arith) (ap not (eq-eqb _ _ b))) ∙ p .rest;
     }

@@ -3,7 +3,7 @@ use Prim.Native.Nat.{ℕ, _+_, _-_, _*_, _/_, _%_, _^_}
 use mathlib.Core.Path.{_≡_, refl}
 use mathlib.Core.Bool.{cond}
 use lib.Dec.{eqb, ltb, leb}
-use Rattle.registers.specs.Reg.{bitFromRight, sign, signed, signedByte, asr, iter}
+use Rattle.registers.specs.Reg.{bitFromRight, sign, signedByte, asr, iter}
 use Rattle.floating.specs.declared.Converted.{Converted}
 use Rattle.floating.specs.Operands.{fraction, exponent, registerFraction}
 

@@ -65,7 +65,7 @@ fn step(x: u64, q: Quotient) -> Quotient
     }
 }
 
-// The first 35 passes: BF(0) and BF(1) are still as at the start, and equal, so none of these is the last (`proofs/Passes.antt`).
+// The first 35 passes: before each of them BF(0) and BF(1) are as at the start, and equal, so the loop goes on (`proofs/Passes.antt`).
 fn first_passes(x: u64, af: u64) -> Quotient
     requires { ⌜ (x < 2 ^ 39) × (af < 2 ^ 39) ⌝ }
     ensures { λ r. ⌜ (r ≡ iter (fdStep x) 35 (fdStart x af)) × (r .af < 2 ^ 39) × (r .bf < 2 ^ 36) × (r .digit < 2) × (r .passes ≡ 35) ⌝ }

@@ -48,7 +48,7 @@ live-autoload : (s : List ℕ) (c : Control) → judgeMachine s c ≡ Accepted �
 unfolding autoloadRecord stateFits
 live-autoload s c e =
     let h = accepted-valid (computer s c) e in
-    record { valid = valid-control (computer s c) _ (omega (arith, h .widths)) refl h; running = refl }
+    record { valid = valid-control (computer s c) _ (omega (arith, h .widths)) refl h; outside = refl }
 
 abbrev endMachine : Ending Machine → Machine
 endMachine (completed m) = m
@@ -73,7 +73,7 @@ unfolding keyHandedBack
 key-made r s t c d h v cs ts a e =
     let m = machine s (autoloadRecord c) (lent (v .reader) (v .typewriter) cs ts) in
     ap (λ n. keyHandedBack cs (record { machine = n; verdict = Accepted }))
-    (end-machine r t d h (deviceSteps 0 (autoloading 0 cs) m) e (live-devices 0 (autoloading 0 cs) m (omega arith) (live-autoload s c a) .running))
+    (end-machine r t d h (deviceSteps 0 (autoloading 0 cs) m) e (live-devices 0 (autoloading 0 cs) m (omega arith) (live-autoload s c a) .outside))
 
 pub key-in-reset : (s : List ℕ) (c : Control) (v : Devices) (cs ts : List ℕ) (x : KeyReturned) → c .reset ≡ true → 4 ≤ length cs
     → x ≡ keyHandedBack cs (autoloaded (machineLent s c v cs ts)) → x ≡ keyHandedBack cs (record { machine = autoloadKey (machineLent s c v cs ts); verdict = Accepted })

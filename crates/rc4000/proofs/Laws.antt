@@ -23,7 +23,7 @@ use Rattle.definition_instructions.specs.Machine.{computer}
 use Rattle.definition_instructions.specs.Channel.{registersOf}
 use Rattle.definition_instructions.proofs.Validity.{accepted-valid, valid-accepted}
 use Rattle.definition_runs.specs.Cycle.{cycle}
-use Rattle.definition_runs.specs.Run.{inReset, judgeOf, devicesFitOf, joined, running, runMachine}
+use Rattle.definition_runs.specs.Run.{inReset, judgeOf, devicesFitOf, joined, runCycles, runMachine}
 use Rattle.definition_runs.specs.Lent.{runResultOf, machineLent, Returned, returned, handedBack, runLent}
 use Rattle.run_promises.specs.Promises.{KeepsProtected, TouchesNoDevice, Counts}
 use Rattle.definition_runs.proofs.CycleValid.{valid-joined}
@@ -54,8 +54,8 @@ fits-a-run s c l b d cs e =
     let fits = fits-unraised s c l b d cs e in (valid-accepted _ (valid-joined l (computer s c) (accepted-valid (computer s c) (fits .0))), fits .1, fits .2, fits .3)
 
 pub run-accepted : (s : List ℕ) (c : Control) (l b : ℕ) (d : Devices) (cs t : List ℕ) (x : Returned) → Accepted ≡ judgeRun s c l b (d .reader) (d .typewriter) cs
-    → x ≡ handedBack cs (running b (machineLent s (raised c l) d cs t)) → x ≡ runLent l b s c d cs t
-unfolding judgeRun running runMachine runLent
+    → x ≡ handedBack cs (runCycles b (machineLent s (raised c l) d cs t)) → x ≡ runLent l b s c d cs t
+unfolding judgeRun runCycles runMachine runLent
 run-accepted s c l b d cs t x e h = h ∙ ap (handedBack cs) (sym (call-run inReset cycle judgeOf devicesFitOf joined l b (machineLent s c d cs t) (sym e)))
 
 -- no lines
@@ -64,7 +64,7 @@ unfolding raised withIR
 raised-none c l e h = rw (e, or-zero-r, mod-eq-of-lt h)
 
 pub run-unraised : (s : List ℕ) (c : Control) (l b : ℕ) (d : Devices) (cs t : List ℕ) (x : Returned) → l ≡ 0 → Accepted ≡ judgeRun s c l b (d .reader) (d .typewriter) cs
-    → x ≡ handedBack cs (running b (machineLent s c d cs t)) → x ≡ runLent l b s c d cs t
+    → x ≡ handedBack cs (runCycles b (machineLent s c d cs t)) → x ≡ runLent l b s c d cs t
 run-unraised s c l b d cs t x z e h =
     let small = accepted-valid (computer s c) (fits-unraised s c l b d cs e .0) .widths .ir in
     run-accepted s c l b d cs t x e (rw (raised-none c l z small) h)

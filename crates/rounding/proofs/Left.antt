@@ -46,8 +46,8 @@ unfolding afLeft
 left-extended a e = until-keep afNormal afStep (λ (x : Normal). Extended (x .word)) kept 48 (record { word = a; shifts = 0 }) e
 
 -- back from AF(0:37)
-extend : (a l : ℕ) → l ≡ a % 2 ^ 38 → Extended a → l + l / 2 ^ 37 * 2 ^ 38 ≡ a
-extend a l h e = omega arith
+sign-added : (a l : ℕ) → l ≡ a % 2 ^ 38 → Extended a → l + l / 2 ^ 37 * 2 ^ 38 ≡ a
+sign-added a l h e = omega arith
 
 -- what the code gives of the result r of `normalize48`
 pub left-back : (a : ℕ) (r : Normal) → Extended a → r ≡ normalize 48 (a % 2 ^ 38 * 2 ^ 10)
@@ -55,4 +55,4 @@ pub left-back : (a : ℕ) (r : Normal) → Extended a → r ≡ normalize 48 (a 
 left-back a r e h =
     let q : r ≡ wide (afLeft a) = h ∙ left-is a in
     let w : r .word ≡ afLeft a .word % 2 ^ 38 * 2 ^ 10 = ap (λ (n : Normal). n .word) q in
-    (extend (afLeft a .word) (r .word / 2 ^ 10) (omega arith) (left-extended a e), ap (λ (n : Normal). n .shifts) q)
+    (sign-added (afLeft a .word) (r .word / 2 ^ 10) (omega arith) (left-extended a e), ap (λ (n : Normal). n .shifts) q)

@@ -16,7 +16,7 @@ use Rattle.definition_instructions.proofs.Validity.{in-reset}
 use Rattle.definition_instructions.proofs.DeviceLaws.{ValidComputer}
 use Rattle.definition_runs.specs.GenericRun.{RunResult, ended, after, run}
 use Rattle.definition_runs.specs.Cycle.{cycle}
-use Rattle.definition_runs.specs.Run.{inReset, running}
+use Rattle.definition_runs.specs.Run.{inReset, runCycles}
 use Rattle.definition_runs.specs.Lent.{machineLent, returned, handedBack}
 use Rattle.definition_runs.proofs.RunLaws.{run-reset, run-out, run-live, Meets}
 use Rattle.definition_runs.proofs.CycleValid.{cycle-valid}
@@ -32,11 +32,11 @@ use Rattle.run_loop.specs.Ends.{goesOn, stopped, runOf, runEndOf, begunI
 abbrev pub following : ℕ → RunResult Machine → RunResult Machine
 following n r = record { machine = r .machine; answer = r .answer; executed = n + r .executed; entries = r .entries }
 
-pub at-first : (b : ℕ) (m : Machine) → following (b - b) (running b m) ≡ running b m
+pub at-first : (b : ℕ) (m : Machine) → following (b - b) (runCycles b m) ≡ runCycles b m
 at-first b m = let z : b - b ≡ 0 = omega arith in rw z (simp zero-add)
 
-pub begun-in-reset : (b : ℕ) (m : Machine) → inReset m ≡ true → ended Reset m 0 0 ≡ running b m
-unfolding running
+pub begun-in-reset : (b : ℕ) (m : Machine) → inReset m ≡ true → ended Reset m 0 0 ≡ runCycles b m
+unfolding runCycles
 begun-in-reset b m e = sym (run-reset inReset cycle b m e)
 
 -- a row is that of a machine outside the reset state
@@ -47,13 +47,13 @@ outside-reset k = refl
 one-more : (n k : ℕ) → n + suc k ≡ n + 1 + k
 one-more n k = omega arith
 
-live : (k : ℕ) (m : Machine) → 0 < k → inReset m ≡ false → running k m ≡ after (cycle m) (run inReset cycle (k - 1))
-unfolding running
+live : (k : ℕ) (m : Machine) → 0 < k → inReset m ≡ false → runCycles k m ≡ after (cycle m) (run inReset cycle (k - 1))
+unfolding runCycles
 live k m h e = let l : k ≡ suc (k - 1) = omega arith in subst (λ x. run inReset cycle x m ≡ after (cycle m) (run inReset cycle (k - 1))) (sym l) (run-live inReset cycle (k - 1) m e)
 
 pub run-goes : (b k : ℕ) (m : Machine) (e : CycleEnd) (s : List ℕ) (c : Control) (h : Channel) → 0 < k → k ≤ b → inReset m ≡ false → cycleOf e s c h ≡ cycle m → goesOn e ≡ true
-    → following (b - k) (running k m) ≡ following (b - (k - 1)) (running (k - 1) (machine s c h))
-unfolding goesOn running
+    → following (b - k) (runCycles k m) ≡ following (b - (k - 1)) (runCycles (k - 1) (machine s c h))
+unfolding goesOn runCycles
 run-goes b k m cycleEnd.Executed s c x h l e t g =
     let n : b - (k - 1) ≡ b - k + 1 = omega arith in
     rw (live k m h e, ← t, n) (simp one-more)
@@ -68,14 +68,14 @@ valid-goes m cycleEnd.Reset s c h e v t g = absurd (false≢true g)
 valid-goes m (cycleEnd.Entered x) s c h e v t g = absurd (false≢true g)
 
 pub run-stops : (b k : ℕ) (m : Machine) (e : CycleEnd) (s : List ℕ) (c : Control) (h : Channel) → 0 < k → inReset m ≡ false → cycleOf e s c h ≡ cycle m → goesOn e ≡ false
-    → runEndOf (stopped e (b - k)) s c h ≡ following (b - k) (running k m)
+    → runEndOf (stopped e (b - k)) s c h ≡ following (b - k) (runCycles k m)
 unfolding goesOn stopped
 run-stops b k m cycleEnd.Executed s c x h e t g = absurd (true≢false g)
 run-stops b k m cycleEnd.Reset s c x h e t g = rw (live k m h e, ← t, run-reset inReset cycle (k - 1) (machine s (resetRecord c) x) (in-reset c))
 run-stops b k m (cycleEnd.Entered y) s c x h e t g = rw (live k m h e, ← t) (simp add-zero)
 
-pub run-spent : (b k : ℕ) (m : Machine) → k ≤ 0 → inReset m ≡ false → ended Spent m b 0 ≡ following (b - k) (running k m)
-unfolding running
+pub run-spent : (b k : ℕ) (m : Machine) → k ≤ 0 → inReset m ≡ false → ended Spent m b 0 ≡ following (b - k) (runCycles k m)
+unfolding runCycles
 run-spent b k m l e =
     let z : k ≡ 0 = omega arith in
     rw (z, sub-zero, run-out inReset cycle m e) (simp add-zero)
@@ -92,6 +92,6 @@ pub handed-run : (r : RunEnd) (s : List ℕ) (c : Control) (d cs t : List ℕ) {
 handed-run r s c d cs t e = handed r s c d cs t ∙ ap (handedBack cs) e
 
 pub handed-in-reset : (b : ℕ) (s : List ℕ) (c : Control) (d : Devices) (cs t : List ℕ) → c .reset ≡ true
-    → returned (begunInReset c d) s t ≡ handedBack cs (running b (machineLent s c d cs t))
+    → returned (begunInReset c d) s t ≡ handedBack cs (runCycles b (machineLent s c d cs t))
 unfolding handedBack registersOf
 handed-in-reset b s c d cs t e = rw (← (begun-in-reset b (machineLent s c d cs t) e), sub-self (length cs))

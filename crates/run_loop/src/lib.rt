@@ -8,7 +8,7 @@ ghost use Rattle.acceptance.specs.Accept.{budgetRange, judgeMachine};
 ghost use Rattle.definition_instructions.specs.Machine.{machine};
 ghost use Rattle.definition_runs.specs.Lent.{machineLent, returned, handedBack};
 ghost use Rattle.channel_row.specs.Row.{channelAt, IsChannel};
-ghost use Rattle.definition_runs.specs.Run.{running};
+ghost use Rattle.definition_runs.specs.Run.{runCycles};
 ghost use Rattle.control_row.specs.Row.{controlAt, IsRow};
 ghost use Rattle.run_loop.specs.Ends.{goesOn, stopped, runEndOf, controlAfter, runOf, begunInReset};
 use channel_row::Channel;
@@ -72,7 +72,7 @@ fn cycles(
     typing: &mut [u8],
 ) -> RunEnd
     requires { ⌜ (judgeMachine (now s) (controlAt (now k)) ≡ Accepted) × (budget < budgetRange) × IsRow (now k) × IsChannel (now h) (now characters) (now typing) ⌝ }
-    ensures value { λ r. ⌜ runEndOf r (now (s .exit)) (controlAt (now (k .exit))) (channelAt (now (h .exit)) (now (characters .entry)) (now (typing .exit))) ≡ running budget (machine (now (s .entry)) (controlAt (now (k .entry))) (channelAt (now (h .entry)) (now (characters .entry)) (now (typing .entry)))) ⌝ }
+    ensures value { λ r. ⌜ runEndOf r (now (s .exit)) (controlAt (now (k .exit))) (channelAt (now (h .exit)) (now (characters .entry)) (now (typing .exit))) ≡ runCycles budget (machine (now (s .entry)) (controlAt (now (k .entry))) (channelAt (now (h .entry)) (now (characters .entry)) (now (typing .entry)))) ⌝ }
     ensures channel { λ _. ⌜ IsChannel (now (h .exit)) (now (characters .entry)) (now (typing .exit)) ⌝ }
 {
     if s.len() < 8 {
@@ -157,7 +157,7 @@ pub fn run(
     typing: &mut [u8],
 ) -> Run
     requires { ⌜ (judgeMachine (now s) c ≡ Accepted) × (budget < budgetRange) × (d .reader < wordRange) × (d .typewriter < wordRange) ⌝ }
-    ensures { λ r. ⌜ returned r (now (s .exit)) (now (typing .exit)) ≡ handedBack (now (characters .entry)) (running budget (machineLent (now (s .entry)) c d (now (characters .entry)) (now (typing .entry)))) ⌝ }
+    ensures { λ r. ⌜ returned r (now (s .exit)) (now (typing .exit)) ≡ handedBack (now (characters .entry)) (runCycles budget (machineLent (now (s .entry)) c d (now (characters .entry)) (now (typing .entry)))) ⌝ }
 {
     if c.reset {
         return in_reset(c, d);
@@ -180,7 +180,7 @@ pub fn run_raised(
     typing: &mut [u8],
 ) -> Run
     requires { ⌜ (judgeMachine (now s) (raised c lines) ≡ Accepted) × (budget < budgetRange) × (d .reader < wordRange) × (d .typewriter < wordRange) ⌝ }
-    ensures { λ r. ⌜ returned r (now (s .exit)) (now (typing .exit)) ≡ handedBack (now (characters .entry)) (running budget (machineLent (now (s .entry)) (raised c lines) d (now (characters .entry)) (now (typing .entry)))) ⌝ }
+    ensures { λ r. ⌜ returned r (now (s .exit)) (now (typing .exit)) ≡ handedBack (now (characters .entry)) (runCycles budget (machineLent (now (s .entry)) (raised c lines) d (now (characters .entry)) (now (typing .entry)))) ⌝ }
 {
     let n = machine::raise(c, lines);
     if n.reset {

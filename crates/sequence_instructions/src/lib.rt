@@ -9,7 +9,6 @@ ghost use Rattle.definition_instructions.specs.Meaning.{JL, SH, SL, SE, SN, SO,
 ghost use Rattle.definition_instructions.specs.MicroOps.{skipped};
 use control_row::End;
 use control_row::Row;
-use machine::Control;
 use registers::BIT_0;
 use registers::WORD_RANGE;
 

@@ -14,7 +14,8 @@ use Rattle.machine.specs.declared.Verdict.the-variants.{Accepted, Rejected}
 use Rattle.acceptance.specs.Accept.{cellsFit}
 use Rattle.definition_tape.specs.Layout.{numberAt, lengthOf, kindOf, payloadOf, restOf, recordsOf, cellsFrom}
 use Rattle.definition_tape.specs.Judge.{lengthFits, judgeRecord, judgeAfter, judgeRecords}
-use Rattle.definition_tape.proofs.Records.{tail, length-payload}
+use Rattle.definition_tape.proofs.Records.{length-payload}
+use Rattle.tape_records.proofs.Lent.{tail}
 use Rattle.definition_tape.proofs.Judged.{good, no-records, a-record}
 use Rattle.tape_judge.specs.declared.Step.{Step}
 use Rattle.tape_judge.specs.declared.Step.the-variants.{Done, Advance}
@@ -42,7 +43,7 @@ payload-fits t p k l b h e q f o =
     rw (q, length-payload t w, ← e) (sym f ∙ o)
 
 -- ---- the code's step
-abbrev pub follow : ℕ → List ℕ → Step → Verdict
+abbrev follow : ℕ → List ℕ → Step → Verdict
 follow n t (Done v) = v
 follow n t (Advance k b) = judgeRecords n b (recordsOf (drop k t))
 
@@ -61,7 +62,7 @@ step-by n t (Rejected r) = refl
 step-by n t Accepted = step-is n t (eqb (kindOf t) 3) (leb (length t) (6 + lengthOf t))
 
 -- the judge takes one step, and goes on with what is left
-pub judge-is : (n : ℕ) (after : Bool) (t : List ℕ) → judgeRecords n after (recordsOf t) ≡ follow n t (stepOf n after t)
+judge-is : (n : ℕ) (after : Bool) (t : List ℕ) → judgeRecords n after (recordsOf t) ≡ follow n t (stepOf n after t)
 unfolding stepOf
 judge-is n after t = at (ltb (length t) 6) refl
   where
@@ -94,7 +95,7 @@ inside n after t = at (ltb (length t) 6)
     at true = tt
     at false = inside-by n after t (judgeRecord n after t) refl
 
-pub step-inside : (n : ℕ) (after : Bool) (t : List ℕ) (k : ℕ) (b : Bool) → stepOf n after t ≡ Advance k b → (6 ≤ k) × (k ≤ length t)
+step-inside : (n : ℕ) (after : Bool) (t : List ℕ) (k : ℕ) (b : Bool) → stepOf n after t ≡ Advance k b → (6 ≤ k) × (k ≤ length t)
 step-inside n after t k b e = rw e at (inside n after t)
 
 -- ---- the judge at the place `at` of a tape

@@ -1,4 +1,4 @@
--- For the functions inside the crate; no public contract rests on it. One record to the judge.
+-- For the functions inside the crate; no public contract rests on it. What the judge does with one record.
 -- Assumes nothing.
 use Prim.Native.Nat.{ℕ, _+_}
 use mathlib.Core.Bool.{Bool, cond}

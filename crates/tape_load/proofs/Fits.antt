@@ -1,7 +1,7 @@
--- The records of an accepted tape are as the loader relies on: each block lies within the store, and there is a good control record. Assumes nothing.
-use Prim.Native.Nat.{ℕ, _+_, _≤_, _<_}
+-- The records of an accepted tape are as the loader relies on: each block lies within the store, and there is a control record. Assumes nothing.
+use Prim.Native.Nat.{ℕ, _≤_, _<_}
 use mathlib.Core.Path.{_≡_}
-use mathlib.Core.Bool.{Bool, true, false}
+use mathlib.Core.Bool.{Bool, false}
 use mathlib.Core.List.{List}
 use native.Mathlib.Omega.{arith}
 use native.Mathlib.Decide.{ℕ-discrete}
@@ -9,10 +9,9 @@ use borrow.Author.Tests.{ne-eqb}
 use lib.ListN.{length}
 use lib.Dec.{eqb}
 use Rattle.definition_tape.specs.Layout.{lengthOf, kindOf, payloadOf, restOf, recordsOf, firstOf}
-use Rattle.definition_tape.specs.Judge.{controlGood}
 use Rattle.definition_tape.proofs.Records.{length-rest, records-none, records-more}
 use Rattle.definition_tape.proofs.Firsts.{first-here, first-next}
-use Rattle.definition_tape.proofs.Judged.{Good, Judged, last, more, block-length, block-payload, control-length, control-payload, no-end}
+use Rattle.definition_tape.proofs.Judged.{Good, Judged, last, more, block-length, block-payload, control-length, no-end}
 use Rattle.tape_load.specs.Fits.{RecordFits, RecordsFit, ControlThere}
 
 record-fits : {n : ℕ} {after : Bool} {t : List ℕ} → Good n after t → RecordFits n t
@@ -26,7 +25,7 @@ record-fits {n} {after} {t} g =
           (omega arith, p .0);
     }
 
-pub fits-none : (n : ℕ) (t : List ℕ) → length t < 6 → RecordsFit n (recordsOf t)
+fits-none : (n : ℕ) (t : List ℕ) → length t < 6 → RecordsFit n (recordsOf t)
 unfolding RecordsFit
 fits-none n t h = rw (records-none t h) tt
 
@@ -44,19 +43,16 @@ records-fit {n} {after} {t} (last g k h) =
     fits-more n t (omega arith) (record-fits g) (fits-none n (restOf t) (omega (arith, length-rest t)))
 records-fit {n} {after} {t} (more g k j) = let w = g .whole in fits-more n t (omega arith) (record-fits g) (records-fit j)
 
--- ---- an accepted tape has a control record, and it is good
-abbrev pub ControlGood : List ℕ → Type 0
-ControlGood t = ControlThere t × (controlGood (payloadOf t) ≡ true)
-
-control-here : (n : ℕ) (after : Bool) (t : List ℕ) → Good n after t → kindOf t ≡ 2 → ControlGood t
+-- ---- an accepted tape has a control record
+control-here : (n : ℕ) (after : Bool) (t : List ℕ) → Good n after t → kindOf t ≡ 2 → ControlThere t
 control-here n after t g e =
     let l = control-length (lengthOf t) (rw e at (g .size)) in
-    (record { whole = g .whole; size = omega arith }, control-payload n (payloadOf t) (rw e at (g .payload)))
+    record { whole = g .whole; size = omega arith }
 
-pub control-there : {n : ℕ} {after : Bool} {t : List ℕ} → Judged n after t → after ≡ false → ControlGood (firstOf 2 (recordsOf t))
+pub control-there : {n : ℕ} {after : Bool} {t : List ℕ} → Judged n after t → after ≡ false → ControlThere (firstOf 2 (recordsOf t))
 control-there {n} {after} {t} (last g k h) a = absurd (no-end n after t g k a)
 control-there {n} {after} {t} (more g k j) a = at (ℕ-discrete (kindOf t) 2) (control-there j)
   where
-    at : Dec (kindOf t ≡ 2) → (eqb (kindOf t) 2 ≡ false → ControlGood (firstOf 2 (recordsOf (restOf t)))) → ControlGood (firstOf 2 (recordsOf t))
+    at : Dec (kindOf t ≡ 2) → (eqb (kindOf t) 2 ≡ false → ControlThere (firstOf 2 (recordsOf (restOf t)))) → ControlThere (firstOf 2 (recordsOf t))
     at (yes e) ih = let w = g .whole in rw (first-here 2 t (omega arith) e) (control-here n after t g e)
     at (no e) ih = let w = g .whole in rw (first-next 2 t (omega arith) e) (ih (ne-eqb (kindOf t) 2 e))

@@ -13,7 +13,8 @@ use Rattle.machine.specs.declared.Verdict.{Verdict}
 use Rattle.machine.specs.declared.Verdict.the-variants.{Accepted, Rejected}
 use Rattle.definition_tape.specs.Layout.{lengthOf, kindOf, payloadOf, restOf, recordsOf, firstCell, cellCount, blockCells}
 use Rattle.definition_tape.specs.Load.{pasted, storedBlock, loadRecord, loadRecords, loadedControl, judgeLoad, loading}
-use Rattle.definition_tape.proofs.Records.{tail, length-tail, length-payload}
+use Rattle.definition_tape.proofs.Records.{length-payload}
+use Rattle.tape_records.proofs.Lent.{tail, length-tail}
 use Rattle.definition_tape.proofs.Loads.{load-more, load-none}
 use Rattle.tape_load.specs.Fits.{RecordFits, RecordsFit, ControlThere}
 use Rattle.tape_load.proofs.Fits.{fits-split}

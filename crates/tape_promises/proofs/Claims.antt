@@ -15,8 +15,7 @@ use Rattle.definition_tape.specs.Layout.{recordsOf}
 use Rattle.definition_tape.specs.Judge.{judgeTape}
 use Rattle.definition_tape.specs.Load.{loadRecords, loadedControl, judgeThen, judgeLoad, loadedBy, loading}
 use Rattle.definition_tape.specs.Remark.{judgeReading, remarkSpan, remarkText}
-use Rattle.definition_tape.proofs.Judged.{judged-back}
-use Rattle.definition_tape.proofs.Judged.{tape-judged, passed-then}
+use Rattle.definition_tape.proofs.Judged.{judged-back, tape-judged, passed-then}
 use Rattle.definition_tape.proofs.Remarks.{remark-part as part}
 use Rattle.tape_promises.specs.Grammar.{TapeFor}
 use Rattle.tape_promises.specs.Claims.{AcceptedTapes, LoadsLayout, KeptCells, KeptSize, KeptAll, LoadedMachines, SameVerdict, FirstRemark, RemarkPart}

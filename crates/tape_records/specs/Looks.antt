@@ -1,4 +1,4 @@
--- For the functions inside the crate; no public contract rests on it. One record to the hunt.
+-- For the functions inside the crate; no public contract rests on it. What one record is to the hunt.
 -- Assumes nothing.
 use Prim.Native.Nat.{ℕ, _+_}
 use mathlib.Core.Bool.{cond}

@@ -1,12 +1,9 @@
 // The reader of a tape's first remark (document 01, "Load tape").
 ghost use mathlib.Core.Path.{_≡_};
-ghost use Prim.Native.Nat.{_≤_};
-ghost use lib.ListN.{length};
 ghost use denote.Ref.{ptr};
 ghost use Rattle.machine.specs.declared.Verdict.the-variants.{Accepted};
-ghost use Rattle.definition_tape.specs.Layout.{recordsOf, firstOf};
+ghost use Rattle.definition_tape.specs.Layout.{recordsOf, firstOf, Whole};
 ghost use Rattle.definition_tape.specs.Remark.{judgeReading, spanBy, remarkSpan, remarkText, placeFrom};
-ghost use Rattle.tape_remark.specs.Whole.{Whole};
 use definition_tape::Span;
 use machine::Refusal;
 use machine::Verdict;

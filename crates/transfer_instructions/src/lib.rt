@@ -1,7 +1,5 @@
 // Address handling, register transfer and byte transfer (14.8): each function does the micro-operations of its meaning, in their order.
 ghost use mathlib.Core.Path.{_≡_};
-ghost use Prim.Native.Nat.{_<_};
-ghost use Rattle.registers.specs.Reg.{wordRange};
 ghost use Rattle.control_row.specs.Row.{controlAt, IsRow};
 ghost use Rattle.control_row.specs.Endings.{ending, endingOf};
 ghost use Rattle.definition_instructions.specs.Codes.{execute};

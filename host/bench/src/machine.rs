@@ -1,7 +1,7 @@
 //! The two machines behind one face, each with its own store.
 
 /// What a run did.
-pub struct Ran {
+pub struct Counts {
     /// It ended in the reset state, else spent.
     pub reset: bool,
     pub executed: u32,
@@ -15,7 +15,7 @@ pub trait Machine {
     fn load(cells: usize, tape: &[u8]) -> Self;
 
     /// One run with no lines, which must end spent or in the reset state.
-    fn run(&mut self, budget: u32, characters: &[u8], typing: &mut [u8]) -> Ran;
+    fn run(&mut self, budget: u32, characters: &[u8], typing: &mut [u8]) -> Counts;
 
     /// Presses the reset key and the autoload key; gives the characters taken.
     fn autoload(&mut self, characters: &[u8]) -> usize;
@@ -43,7 +43,7 @@ macro_rules! machine {
                 }
             }
 
-            fn run(&mut self, budget: u32, characters: &[u8], typing: &mut [u8]) -> Ran {
+            fn run(&mut self, budget: u32, characters: &[u8], typing: &mut [u8]) -> Counts {
                 let (store, control) = (&mut self.store, &mut self.control);
                 let devices = &mut self.devices;
                 let report = $library::run(store, control, 0, budget, devices, characters, typing)
@@ -53,7 +53,7 @@ macro_rules! machine {
                     $library::Outcome::Reset => true,
                     $library::Outcome::Interrupted(kind) => panic!("interrupted: {kind:?}"),
                 };
-                Ran {
+                Counts {
                     reset,
                     executed: report.executed,
                     taken: report.taken,

@@ -38,7 +38,7 @@ fn connected(characters: &[u8], typing: &[u8]) -> Machine {
 }
 
 /// Executes IO with W1; the address comes from W2.
-fn operate(machine: &mut Machine, device: u32, modifier: u32, command: u32) -> Report {
+fn execute_io(machine: &mut Machine, device: u32, modifier: u32, command: u32) -> Report {
     machine.store[2] = device << 6 | modifier << 2 | command;
     machine.execute(instruction(IO, 1, 0, 2, 0))
 }
@@ -64,7 +64,7 @@ fn all_devices_but_two_are_disconnected() {
     for device in [2, 3, 63, 64, 65, 1 << 16, 1 << 17, (1 << 18) - 1] {
         for command in COMMANDS {
             let mut machine = connected(&[1, 2], &[9, 9]);
-            let report = operate(&mut machine, device, 0, command);
+            let report = execute_io(&mut machine, device, 0, command);
             assert_eq!(state(&machine, &report), untouched(6), "{device} {command}");
             assert_eq!(machine.typing, [9, 9]);
         }
@@ -77,9 +77,9 @@ fn the_modifier_is_ignored() {
         for device in [READER, TYPEWRITER, 2] {
             for command in COMMANDS {
                 let mut plain = connected(&[1, 2], &[9, 9]);
-                let report = operate(&mut plain, device, 0, command);
+                let report = execute_io(&mut plain, device, 0, command);
                 let mut modified = connected(&[1, 2], &[9, 9]);
-                let other = operate(&mut modified, device, modifier, command);
+                let other = execute_io(&mut modified, device, modifier, command);
                 assert_eq!(state(&plain, &report), state(&modified, &other));
                 assert_eq!(plain.typing, modified.typing);
             }
@@ -94,7 +94,7 @@ fn io_sets_ex_22_and_clears_ex_23() {
             for command in COMMANDS {
                 let mut machine = connected(&[1], &[0]);
                 machine.control.ex = ex;
-                let report = operate(&mut machine, device, 0, command);
+                let report = execute_io(&mut machine, device, 0, command);
                 assert_eq!(machine.control.ex, ex & 4 | set);
                 assert_eq!((report.outcome, report.executed), (Outcome::Spent, 1));
                 assert_eq!(machine.control.ir, 0);
@@ -109,7 +109,7 @@ fn sense_finds_both_devices() {
         for (characters, typing) in [(&[1, 2][..], &[9][..]), (&[], &[])] {
             let mut machine = connected(characters, typing);
             machine.store[1] |= 5 << 24;
-            let report = operate(&mut machine, device, 0, SENSE);
+            let report = execute_io(&mut machine, device, 0, SENSE);
             let cell = 5 << 24 | register;
             assert_eq!(state(&machine, &report), (0, 0, REGISTERS, cell, 4));
         }
@@ -120,7 +120,7 @@ fn sense_finds_both_devices() {
 fn read_of_the_reader() {
     for character in [0, 1, 63] {
         let mut machine = connected(&[character, 5], &[]);
-        let report = operate(&mut machine, READER, 0, READ);
+        let report = execute_io(&mut machine, READER, 0, READ);
         let devices = Devices {
             reader: u32::from(character),
             ..REGISTERS
@@ -128,7 +128,7 @@ fn read_of_the_reader() {
         assert_eq!(state(&machine, &report), (1, 0, devices, 0xff_0141, 4));
     }
     let mut machine = connected(&[], &[1, 2]);
-    let report = operate(&mut machine, READER, 0, READ);
+    let report = execute_io(&mut machine, READER, 0, READ);
     assert_eq!(state(&machine, &report), untouched(6));
 }
 
@@ -136,7 +136,7 @@ fn read_of_the_reader() {
 fn read_of_the_typewriter_gives_zero() {
     for typing in [&[][..], &[1]] {
         let mut machine = connected(&[1], typing);
-        let report = operate(&mut machine, TYPEWRITER, 0, READ);
+        let report = execute_io(&mut machine, TYPEWRITER, 0, READ);
         let devices = Devices {
             typewriter: 0,
             ..REGISTERS
@@ -149,7 +149,7 @@ fn read_of_the_typewriter_gives_zero() {
 #[test]
 fn write_to_the_typewriter() {
     let mut machine = connected(&[1], &[7, 8]);
-    let report = operate(&mut machine, TYPEWRITER, 0, WRITE);
+    let report = execute_io(&mut machine, TYPEWRITER, 0, WRITE);
     let devices = Devices {
         typewriter: 0xff_0141,
         ..REGISTERS
@@ -157,7 +157,7 @@ fn write_to_the_typewriter() {
     assert_eq!(state(&machine, &report), (0, 1, devices, 0xff_0141, 4));
     assert_eq!(machine.typing, [0x41, 8]);
     let mut machine = connected(&[1], &[]);
-    let report = operate(&mut machine, TYPEWRITER, 0, WRITE);
+    let report = execute_io(&mut machine, TYPEWRITER, 0, WRITE);
     assert_eq!(state(&machine, &report), untouched(6));
 }
 
@@ -167,7 +167,7 @@ fn write_to_the_reader_and_control_do_nothing() {
     for (device, command) in operations {
         for (characters, typing) in [(&[1, 2][..], &[9][..]), (&[], &[])] {
             let mut machine = connected(characters, typing);
-            let report = operate(&mut machine, device, 0, command);
+            let report = execute_io(&mut machine, device, 0, command);
             assert_eq!(state(&machine, &report), untouched(4));
             assert_eq!(machine.typing, typing);
         }
@@ -463,7 +463,7 @@ fn with_nothing_lent_only_sense_control_read_1_and_write_0_find_a_device() {
     for device in [READER, TYPEWRITER] {
         for command in COMMANDS {
             let mut machine = Machine::with_registers([0, 5, 0, 0]);
-            operate(&mut machine, device, 0, command);
+            execute_io(&mut machine, device, 0, command);
             let lacks = [(READER, READ), (TYPEWRITER, WRITE)].contains(&(device, command));
             assert_eq!(machine.control.ex, if lacks { 2 } else { 0 });
             assert_eq!(machine.store[1], if command == SENSE { 0 } else { 5 });

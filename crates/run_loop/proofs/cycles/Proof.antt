@@ -5,7 +5,7 @@ use lib.ListN.{length}
 use Rattle.definition_instructions.specs.Machine.{computer, machine}
 use Rattle.definition_instructions.proofs.Validity.{accepted-valid}
 use Rattle.definition_instructions.proofs.DeviceLaws.{ValidComputer}
-use Rattle.definition_runs.specs.Run.{running}
+use Rattle.definition_runs.specs.Run.{runCycles}
 use Rattle.control_row.specs.Row.{controlAt, IsRow}
 use Rattle.channel_row.specs.Row.{channelAt, IsChannel}
 use Rattle.run_loop.proofs.Loop.{following, at-first, outside-reset, run-goes, valid-goes, run-stops, run-spent}
@@ -17,7 +17,7 @@ abbrev Inv-loop : tie.InvT-loop
 Inv-loop s₀ k₀ budget h₀ characters typing₀ left₀ s k h typing left =
     (left ≤ budget) × (length s ≡ length s₀) × (length typing ≡ length typing₀) × IsRow k × IsChannel h characters typing
     × ValidComputer (machine s (controlAt k) (channelAt h characters typing))
-    × (following (budget - left) (running left (machine s (controlAt k) (channelAt h characters typing))) ≡ running budget (machine s₀ (controlAt k₀) (channelAt h₀ characters typing₀)))
+    × (following (budget - left) (runCycles left (machine s (controlAt k) (channelAt h characters typing))) ≡ runCycles budget (machine s₀ (controlAt k₀) (channelAt h₀ characters typing₀)))
 
 abbrev μ-loop : tie.MeasureT-loop
 μ-loop s₀ k₀ budget h₀ characters typing₀ left₀ s k h typing left = left

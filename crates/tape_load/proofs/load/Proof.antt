@@ -17,7 +17,7 @@ load-records-requires c κs = records-fit (load-judged _ _ (sym (c .before .befo
 
 loaded-control-requires : tie.Need-loaded-control-requires
 loaded-control-requires c κs = let b4 = c .before .before .before .before in
-    control-there (load-judged _ _ (sym (b4 .before .before .judge-load .ensures) ∙ b4 .enum-told .given .1)) refl .0
+    control-there (load-judged _ _ (sym (b4 .before .before .judge-load .ensures) ∙ b4 .enum-told .given .1)) refl
 
 enum-known-v : tie.Need-enum-known-v
 enum-known-v c = search needs

@@ -6,7 +6,7 @@ use lib.ListN.{length}
 use borrow.Author.Needs.{needs}
 use borrow.Fn.Kinds.{In}
 use borrow.Fn.PlainCycle.{Measures, is, falls, and}
-use Rattle.definition_tape.proofs.Records.{tail, length-tail}
+use Rattle.tape_records.proofs.Lent.{tail, length-tail}
 use Rattle.tape_records.proofs.Hunted.{hunt-is, next-inside}
 use Rattle.tape_records.proofs.hunt.Reads as hunt
 use Rattle.tape_records.proofs.hunt.Kinds as hunt-kinds
@@ -43,7 +43,7 @@ pub +hunt-spec : {M : Type 1} → statement M
     let e = sym (c .before .before .before .before .look-for .ensures) ∙ c .before .before .l .given .1 in
     let start = c .before .before .before .before .before .before in
     (omega (arith, next-inside _ _ _ e, length-tail (c .before .before .l .given .0 .0) (start .args .tape .now), start .pre .0), tt))
-    -- returns: End, Here, Next
+    -- returns: Nothing, Here, Next
     (λ c. let e = sym (c .before .before .before .look-for .ensures) ∙ c .before .enum-told .given .1 in rw (hunt-is, e))
     (λ c. let e = sym (c .before .before .look-for .ensures) ∙ c .enum-told2 .given .1 in rw (hunt-is, e))
     (λ c.

@@ -1,12 +1,12 @@
 use native.Mathlib.Omega.{arith}
 use denote.Ref.{now}
 use Rattle.definition_tape.specs.Remark.{remarkText}
-use Rattle.definition_tape.proofs.Remarks.{PartOf, remark-part}
+use Rattle.definition_tape.proofs.Remarks.{SpanPart, remark-part}
 use borrow.Author.Needs.{needs}
 use Rattle.tape_remark.proofs.remark.Statement.{statement}
 use Rattle.tape_remark.proofs.remark.Tie as tie
 
-part : (c : tie.After-remark-span) → PartOf (now (c .before .before .args .tape)) (remarkText (now (c .before .before .args .tape)) (c .before .before .args .cells)) (c .remark-span .result)
+part : (c : tie.After-remark-span) → SpanPart (now (c .before .before .args .tape)) (remarkText (now (c .before .before .args .tape)) (c .before .before .args .cells)) (c .remark-span .result)
 part c = rw (c .remark-span .ensures) (remark-part _ _)
 
 remark-span-requires : tie.Need-remark-span-requires

@@ -1,6 +1,6 @@
 use native.Mathlib.Omega.{arith}
 use denote.Ref.{now}
-use Rattle.tape_remark.specs.Whole.{Whole}
+use Rattle.definition_tape.specs.Layout.{Whole}
 use Rattle.definition_tape.proofs.Firsts.{Suffix, suffix}
 use borrow.Author.Tests.{eq-eqb, ne-eqb}
 use borrow.Author.Needs.{needs}
