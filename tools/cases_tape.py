@@ -4,8 +4,8 @@
 usage: tools/cases_tape.py [CASES ANSWERS]
 
 The stored files have 1,482 cases: the 299 made here and 1,183 that were given as two files, the load and remark cases that stood in
-host/vectors before E1. E1 changed neither call, and host/vectors now has fewer of them: with host/vectors/e1.cases and e1.answers other
-files come out, 1,075 cases, so work in a copy, and leave the stored ones as they are. The crate's file stdin has all 1,482.
+host/vectors before E1. E1 and E2 changed neither call, and host/vectors now has fewer of them: with host/vectors/e2.cases and e2.answers
+other files come out, 1,023 cases, so work in a copy, and leave the stored ones as they are. The crate's file stdin has all 1,482.
 
 The first part is made here: the paper's tape, tapes for every refusal, and for every pair of refusals that stand next to each other in
 document 01's order, tapes that earn both at one record. The judge below, written from document 01, answers them. With two files, in the

@@ -61,6 +61,17 @@ static void autoload_refused(uint32_t *store, size_t count, uint32_t refusal, in
     expect(same(key.control, given), "record of the autoload key", flag, byte);
 }
 
+/* So does the writer, before it tests remark and buffer. */
+static void write_refused(uint32_t *store, size_t count, uint32_t refusal, int flag,
+                          unsigned byte) {
+    static const uint8_t text[256];
+    uint8_t buffer = 7;
+    const rc4000_written written =
+        rc4000_write(store, count, with_flag(flag, byte), 1, text, sizeof text, &buffer, 1);
+    expect(written.refusal == refusal && written.length == 0, "writer", flag, byte);
+    expect(buffer == 7, "buffer of the writer", flag, byte);
+}
+
 /* Each call on a store of these cells gives the refusal, and changes nothing. */
 static void refused(const uint32_t *cells, size_t count, uint32_t refusal, int flag,
                     unsigned byte) {
@@ -69,6 +80,7 @@ static void refused(const uint32_t *cells, size_t count, uint32_t refusal, int f
     memcpy(store, cells, sizeof store);
     run_refused(store, count, refusal, flag, byte);
     autoload_refused(store, count, refusal, flag, byte);
+    write_refused(store, count, refusal, flag, byte);
     const rc4000_state reset = rc4000_press_reset(store, count, given);
     expect(reset.refusal == refusal, "reset key", flag, byte);
     expect(same(reset.control, given), "record of the reset key", flag, byte);
@@ -76,6 +88,18 @@ static void refused(const uint32_t *cells, size_t count, uint32_t refusal, int f
     expect(start.refusal == refusal, "start key", flag, byte);
     expect(same(start.control, given), "record of the start key", flag, byte);
     expect(memcmp(store, cells, sizeof store) == 0, "store", flag, byte);
+}
+
+/* 0 and 1 are written, and come back from the tape. */
+static void written(int flag, unsigned byte) {
+    const rc4000_control given = with_flag(flag, byte);
+    uint32_t store[CELLS] = {0};
+    uint8_t buffer[sizeof tape];
+    const rc4000_written done =
+        rc4000_write(store, CELLS, given, 0, NULL, 0, buffer, sizeof buffer);
+    expect(done.refusal == 0 && done.length == sizeof tape, "writer", flag, byte);
+    const rc4000_state back = rc4000_load(store, CELLS, tapes_record, buffer, sizeof buffer);
+    expect(back.refusal == 0 && same(back.control, given), "record written", flag, byte);
 }
 
 /* 0 and 1 are taken. */
@@ -114,6 +138,7 @@ int main(void) {
             loaded(flag, byte);
             if (byte < 2) {
                 taken(flag, byte);
+                written(flag, byte);
                 continue;
             }
             refused(good, CELLS - 1, RC4000_STORE_SIZE, flag, byte);

@@ -47,3 +47,7 @@ AT(rc4000_text, refusal, 0);
 AT(rc4000_text, found, 4);
 AT(rc4000_text, start, 8);
 AT(rc4000_text, end, 16);
+
+SIZE(rc4000_written, 16);
+AT(rc4000_written, refusal, 0);
+AT(rc4000_written, length, 8);

@@ -16,15 +16,15 @@
  * took and typed is handed back as a count; the next call is lent the
  * characters behind those taken and the bytes behind those typed.
  *
- * A call that is refused gives the refusal's number, 1 to 13, and leaves the
- * store and the typing buffer as they were; control record and device buffer
+ * A call that is refused gives the refusal's number, 1 to 16, and leaves the
+ * store and the buffers as they were; control record and device buffer
  * registers come back as given, and every count is zero.
  *
  * What the caller has to see to, since C does not check it: store points to
- * `cells` cells, tape to `length` bytes, characters to `count` bytes and typing
- * to `space` bytes (NULL will do where that number is 0); no two of them
- * overlap, and nothing else changes them during the call. Nothing else is
- * asked.
+ * `cells` cells, tape to `length` bytes, text to `text_length` bytes,
+ * characters to `count` bytes, and typing, or the tape that is written, to
+ * `space` bytes (NULL will do where that number is 0); no two of them overlap,
+ * and nothing else changes them during the call. Nothing else is asked.
  *
  * Link with librc4000.a. */
 #ifndef RC4000_H
@@ -104,57 +104,50 @@ enum {
 
 /* The refusals. The store is tested first (1, 2); then control record, lines,
  * budget and devices (3, 4, 5, 13), or the tape: its length (12), then record
- * by record. */
+ * by record; or, to write one, control record, remark, tape and buffer (3, 14,
+ * 15, 16). */
 enum {
-    RC4000_STORE_SIZE = 1,    /* fewer than 8 or more than 8388608 cells */
-    RC4000_CELL_VALUE = 2,    /* a cell of 134217728 or more */
-    RC4000_CONTROL_FIELD = 3, /* a control field outside the widths (a flag over 1 too) and rules */
-    RC4000_LINES = 4,         /* lines with bit 0, 1 or 2 set, or over 24 bits */
-    RC4000_BUDGET = 5,        /* a budget over 65535 */
-    RC4000_TAPE_ENDS = 6,     /* the tape stops inside a record, or before an end record */
-    RC4000_RECORD_KIND = 7,   /* a record kind not 1 to 4 */
-    RC4000_RECORD_LENGTH = 8, /* a length wrong for the kind */
-    RC4000_BLOCK_PLACE = 9,   /* a block beyond the store */
-    RC4000_BLOCK_CELL = 10,   /* a cell of a block of 134217728 or more */
-    RC4000_RECORD_ORDER = 11, /* records in the wrong order, or bytes after the end */
-    RC4000_TAPE_LENGTH = 12,  /* a tape over 65536 bytes */
-    RC4000_DEVICE = 13        /* a reader character over 63, or a device buffer register over 24 bits */
+    RC4000_STORE_SIZE = 1,      /* fewer than 8 or more than 8388608 cells */
+    RC4000_CELL_VALUE = 2,      /* a cell of 134217728 or more */
+    RC4000_CONTROL_FIELD = 3,   /* a control field outside the widths (a flag over 1 too) and rules */
+    RC4000_LINES = 4,           /* lines with bit 0, 1 or 2 set, or over 24 bits */
+    RC4000_BUDGET = 5,          /* a budget over 65535 */
+    RC4000_TAPE_ENDS = 6,       /* the tape stops inside a record, or before an end record */
+    RC4000_RECORD_KIND = 7,     /* a record kind not 1 to 4 */
+    RC4000_RECORD_LENGTH = 8,   /* a length wrong for the kind */
+    RC4000_BLOCK_PLACE = 9,     /* a block beyond the store */
+    RC4000_BLOCK_CELL = 10,     /* a cell of a block of 134217728 or more */
+    RC4000_RECORD_ORDER = 11,   /* records in the wrong order, or bytes after the end */
+    RC4000_TAPE_LENGTH = 12,    /* a tape over 65536 bytes */
+    RC4000_DEVICE = 13,         /* a reader character over 63, or a device buffer register over 24 bits */
+    RC4000_REMARK_LENGTH = 14,  /* a remark over 255 bytes */
+    RC4000_WRITTEN_LENGTH = 15, /* a machine whose tape would pass 65536 bytes */
+    RC4000_BUFFER_LENGTH = 16   /* a buffer shorter than the tape */
 };
 
-/* What a refusal means. */
+/* What a refusal means. The texts stand in the order of the numbers, from 0 on. */
 static inline const char *rc4000_refusal_text(uint32_t number) {
-    switch (number) {
-    case 0:
-        return "not refused";
-    case RC4000_STORE_SIZE:
-        return "fewer than 8 or more than 8,388,608 cells";
-    case RC4000_CELL_VALUE:
-        return "a cell of 134,217,728 or more";
-    case RC4000_CONTROL_FIELD:
-        return "a control field outside the widths and rules";
-    case RC4000_LINES:
-        return "lines with bit 0, 1 or 2 set, or over 24 bits";
-    case RC4000_BUDGET:
-        return "a budget over 65,535";
-    case RC4000_TAPE_ENDS:
-        return "the tape stops inside a header or payload, or before an end record";
-    case RC4000_RECORD_KIND:
-        return "a record kind not 1 to 4";
-    case RC4000_RECORD_LENGTH:
-        return "a record length wrong for the kind";
-    case RC4000_BLOCK_PLACE:
-        return "a block beyond the store";
-    case RC4000_BLOCK_CELL:
-        return "a cell of a block of 134,217,728 or more";
-    case RC4000_RECORD_ORDER:
-        return "not the end after the control record, an end with no control record, or bytes after the end";
-    case RC4000_TAPE_LENGTH:
-        return "a tape over 65,536 bytes";
-    case RC4000_DEVICE:
-        return "a reader character over 63, or a device buffer register over 24 bits";
-    default:
-        return "no refusal has this number";
-    }
+    static const char *const texts[] = {
+        "not refused",
+        "fewer than 8 or more than 8,388,608 cells",
+        "a cell of 134,217,728 or more",
+        "a control field outside the widths and rules",
+        "lines with bit 0, 1 or 2 set, or over 24 bits",
+        "a budget over 65,535",
+        "the tape stops inside a header or payload, or before an end record",
+        "a record kind not 1 to 4",
+        "a record length wrong for the kind",
+        "a block beyond the store",
+        "a cell of a block of 134,217,728 or more",
+        "not the end after the control record, an end with no control record, or bytes after the end",
+        "a tape over 65,536 bytes",
+        "a reader character over 63, or a device buffer register over 24 bits",
+        "a remark over 255 bytes",
+        "a machine whose tape would pass 65,536 bytes",
+        "a buffer shorter than the tape",
+    };
+    const uint32_t count = sizeof texts / sizeof texts[0];
+    return number < count ? texts[number] : "no refusal has this number";
 }
 
 typedef struct {
@@ -185,6 +178,14 @@ typedef struct {
     bool found;       /* it has a remark: bytes start to end - 1 of the tape */
     size_t start, end;
 } rc4000_text;
+
+typedef struct {
+    uint32_t refusal; /* 0: done, else a refusal */
+    size_t length;    /* bytes of the tape: they stand at the front of the buffer */
+} rc4000_written;
+
+/* The most bytes of a tape: a buffer of so many has room for every tape. */
+enum { RC4000_LONGEST_TAPE = 65536 };
 
 /* Runs at most budget cycles, at most 65535. The raised lines, bits 3 to 23,
  * join IR first. The reader has `count` characters and the typewriter takes
@@ -229,6 +230,15 @@ rc4000_state rc4000_load(uint32_t *store, size_t cells, rc4000_control control,
 
 /* The first remark of a tape that loads into a store of this many cells. */
 rc4000_text rc4000_remark(const uint8_t *tape, size_t length, size_t cells);
+
+/* Writes the tape of a machine into a buffer of `space` bytes, whose bytes
+ * behind the tape are kept. `given` 0: no remark; else the remark is `text`, at
+ * most 255 bytes, also where it is empty. Store and record are only read.
+ * rc4000_load into as many cells of zero gives the same store and record; the
+ * device buffer registers are not on a tape. */
+rc4000_written rc4000_write(const uint32_t *store, size_t cells, rc4000_control control,
+                            uint8_t given, const uint8_t *text, size_t text_length, uint8_t *tape,
+                            size_t space);
 
 #ifdef __cplusplus
 }

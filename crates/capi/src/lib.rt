@@ -1,12 +1,13 @@
 // The C calls (host/include/rc4000.h): the public calls, with the records of `capi_records` in and out. Flag bytes are tested first, save by a load.
 ghost use mathlib.Core.Path.{_≡_};
 ghost use Rattle.definition_tape.specs.Remark.{remarkSpan};
-ghost use Rattle.capi_records.specs.Results.{returned, runReturned, runCall, resetCall, startCall, autoloadCall, loadCall, textOf};
+ghost use Rattle.capi_records.specs.Results.{returned, runReturned, runCall, resetCall, startCall, autoloadCall, loadCall, textOf, writeReturned, writeCall};
 use capi_records::AutoloadResult;
 use capi_records::CallResult;
 use capi_records::ControlRecord;
 use capi_records::StateResult;
 use capi_records::TextResult;
+use capi_records::WriteResult;
 use machine::Devices;
 use machine::Verdict;
 
@@ -102,5 +103,26 @@ pub extern "C" fn rc4000_remark(tape: &[u8], cells: usize) -> TextResult
         found: x.found,
         start: x.start,
         end: x.end,
+    }
+}
+
+#[no_mangle]
+pub extern "C" fn rc4000_write(
+    store: &[u32],
+    control: ControlRecord,
+    given: u8,
+    text: &[u8],
+    tape: &mut [u8],
+) -> WriteResult
+    ensures { λ r. ⌜ writeReturned r (now (tape .exit)) ≡ writeCall (now (store .entry)) control given (now (text .entry)) (now (tape .entry)) ⌝ }
+{
+    let v = capi_records::judge_flags(store, control);
+    match v {
+        Verdict::Accepted => {
+            let c = control.control();
+            let x = rc4000::write(store, c, given != 0, text, tape);
+            capi_records::write_result(x)
+        }
+        Verdict::Rejected(q) => capi_records::refused_write(q),
     }
 }

@@ -2,9 +2,10 @@
 use Prim.Native.Nat.{ℕ}
 use native.Mathlib.Omega.{arith}
 use mathlib.Core.Path.{_≡_, refl, ap, _∙_}
-use mathlib.Core.Bool.{Bool, true, false, cond}
+use mathlib.Core.Bool.{Bool, true, false, not, cond}
+use mathlib.Core.Option.{Option}
 use mathlib.Core.List.{List, []}
-use lib.Dec.{ltb}
+use lib.Dec.{eqb, ltb, leb}
 use lib.ListN.{length}
 use Rattle.machine.specs.declared.Control.{Control}
 use Rattle.machine.specs.declared.Devices.{Devices}
@@ -12,7 +13,7 @@ use Rattle.machine.specs.declared.Run.{Run}
 use Rattle.machine.specs.declared.Autoloaded.{Autoloaded}
 use Rattle.machine.specs.declared.Kind.the-variants.{Exception, Line}
 use Rattle.machine.specs.declared.Outcome.the-variants.{Spent, Interrupted, Reset}
-use Rattle.machine.specs.declared.Refusal.the-variants.{StoreSize, CellValue, ControlField}
+use Rattle.machine.specs.declared.Refusal.the-variants.{StoreSize, CellValue, ControlField, RemarkLength, WrittenLength, BufferLength}
 use Rattle.machine.specs.declared.Verdict.{Verdict}
 use Rattle.machine.specs.declared.Verdict.the-variants.{Accepted, Rejected}
 use Rattle.machine.specs.declared.Answer.{Answer}
@@ -28,9 +29,13 @@ use Rattle.definition_runs.specs.GenericRun.{refusedNumber}
 use Rattle.run_promises.proofs.Promises.{refused-run, refused-only, refusal-numbers}
 use Rattle.cycle_promises.proofs.Claims as keys
 use Rattle.definition_tape.specs.Load.{judgeThen, judgeLoad, loadedBy, loading}
+use Rattle.definition_tape.specs.Bytes.{tapeOf}
+use Rattle.definition_tape.specs.Writing.{remarkOf, remarkFits, judgeSize, judgeParts, judgeWriting, Writing, writingBy, writing}
+use Rattle.writer_promises.specs.Claims.{tapeSize}
+use Rattle.writer_promises.proofs.Claims.{tape-length}
 use Rattle.capi_records.specs.declared.ControlRecord.{ControlRecord}
-use Rattle.capi_records.specs.Results.{flagsFit, controlIn, judgeFlags, runReturned, resultBy, autoloadedBy, runBy, keyBy, autoloadBy, loadBy, runCall, resetCall, startCall, autoloadCall, loadCall}
-use Rattle.capi_promises.specs.Claims.{numberOf, fitsLent, RunNumbers, AutoloadCallNumbers, RunAsGiven, StateAsGiven, AutoloadAsGiven, RefusedAsGiven}
+use Rattle.capi_records.specs.Results.{flagsFit, controlIn, judgeFlags, runReturned, resultBy, autoloadedBy, runBy, keyBy, autoloadBy, loadBy, writeResultBy, writeBy, runCall, resetCall, startCall, autoloadCall, loadCall, writeCall}
+use Rattle.capi_promises.specs.Claims.{numberOf, fitsLent, RunNumbers, AutoloadCallNumbers, WriteNumbers, RunAsGiven, StateAsGiven, AutoloadAsGiven, WriteAsGiven, RefusedAsGiven}
 
 -- ---- the numbers of a run
 
@@ -89,6 +94,50 @@ pub autoload-call-numbers : AutoloadCallNumbers
 unfolding autoloadCall judgeFlags
 autoload-call-numbers s r d cs = key-flags (flagsFit r) s r d cs
 
+-- ---- the numbers of a written tape
+
+write-number : (v : Verdict) (t o : List ℕ) → let x = writingBy v t o in writeResultBy (x .answer .verdict) (x .answer) .refusal ≡ verdictNumber v
+write-number Accepted t o = refl
+write-number (Rejected q) t o = refl
+
+bad-write : (z c : Bool) (o : List ℕ) (x : Writing)
+    → writeBy (judgeThen (cond z (cond c Accepted (Rejected CellValue)) (Rejected StoreSize)) (Rejected ControlField)) o x .result .refusal ≡ cond z (cond c 3 2) 1
+bad-write true true o x = refl
+bad-write true false o x = refl
+bad-write false c o x = refl
+
+-- the number of `judgeWriting`, by its tests
+tests-number : (z c f m a b : Bool)
+    → verdictNumber (judgeThen (cond z (cond c (cond f Accepted (Rejected ControlField)) (Rejected CellValue)) (Rejected StoreSize))
+    (cond m (cond a (cond b Accepted (Rejected BufferLength)) (Rejected WrittenLength)) (Rejected RemarkLength)))
+    ≡ cond z (cond c (cond f (cond m (cond a (cond b 0 16) 15) 14) 3) 2) 1
+tests-number true true true true true true = refl
+tests-number true true true true true false = refl
+tests-number true true true true false b = refl
+tests-number true true true false a b = refl
+tests-number true true false m a b = refl
+tests-number true false f m a b = refl
+tests-number false c f m a b = refl
+
+writing-number : (s : List ℕ) (c : Control) (m : Option (List ℕ)) (n : ℕ)
+    → verdictNumber (judgeWriting s c m n)
+    ≡ cond (sizeFits (length s)) (cond (cellsFit s) (cond (controlFits c) (cond (remarkFits m) (cond (leb (tapeSize s m) 65536) (cond (leb (tapeSize s m) n) 0 16) 15) 14) 3) 2) 1
+unfolding judgeWriting judgeMachine judgeParts judgeSize
+writing-number s c m n =
+    rw (tape-length s c m) (tests-number (sizeFits (length s)) (cellsFit s) (controlFits c) (remarkFits m) (leb (tapeSize s m) 65536) (leb (tapeSize s m) n))
+
+write-flags : (f : Bool) (s : List ℕ) (r : ControlRecord) (m : Option (List ℕ)) (o : List ℕ)
+    → writeBy (cond f Accepted (judgeThen (judgeStore s) (Rejected ControlField))) o (writing s (controlIn r) m o) .result .refusal
+    ≡ cond (sizeFits (length s))
+    (cond (cellsFit s) (cond f (cond (controlFits (controlIn r)) (cond (remarkFits m) (cond (leb (tapeSize s m) 65536) (cond (leb (tapeSize s m) (length o)) 0 16) 15) 14) 3) 3) 2) 1
+unfolding judgeStore writing
+write-flags true s r m o = write-number (judgeWriting s (controlIn r) m (length o)) (tapeOf s (controlIn r) m) o ∙ writing-number s (controlIn r) m (length o)
+write-flags false s r m o = bad-write (sizeFits (length s)) (cellsFit s) o (writing s (controlIn r) m o)
+
+pub write-numbers : WriteNumbers
+unfolding writeCall judgeFlags
+write-numbers s r g m o = write-flags (flagsFit r) s r (remarkOf (not (eqb g 0)) m) o
+
 -- ---- a refusal changes nothing
 
 -- an accepted call whose answer is a refusal left everything as it was
@@ -127,12 +176,18 @@ load-by : (v : Verdict) (tape s : List ℕ) (r : ControlRecord) (c : Control) �
 load-by (Rejected q) tape s r c = λ _. (refl, refl)
 load-by Accepted tape s r c = λ z. absurd (z refl)
 
+write-by : (v w : Verdict) (t o : List ℕ) → WriteAsGiven o (writeBy v o (writingBy w t o))
+write-by (Rejected q) w t o = λ _. (refl, refl)
+write-by Accepted (Rejected q) t o = λ _. (refl, refl)
+write-by Accepted Accepted t o = λ z. absurd (z refl)
+
 pub refused-as-given : RefusedAsGiven
-unfolding runCall resetCall startCall autoloadCall loadCall pressingReset pressingStart pressingAutoload autoloadLent loading
-refused-as-given l b tape s r d cs t = (
+unfolding runCall resetCall startCall autoloadCall loadCall writeCall pressingReset pressingStart pressingAutoload autoloadLent loading writing
+refused-as-given l b g tape s r d cs t m o = (
   run-by (judgeFlags s r) l b s r d cs t,
   key-by (judgeFlags s r) (judgeMachine s (controlIn r)) s r (controlIn r) (resetKey s (controlIn r)),
   key-by (judgeFlags s r) (judgeMachine s (controlIn r)) s r (controlIn r) (startKey s (controlIn r)),
   autoload-by (judgeFlags s r) (judgeAutoloadOf (machineLent s (controlIn r) d cs [])) s r d cs (autoloadKey (machineLent s (controlIn r) d cs [])),
   load-by (judgeLoad tape s) tape s r (controlIn r),
+  write-by (judgeFlags s r) (judgeWriting s (controlIn r) (remarkOf (not (eqb g 0)) m) (length o)) (tapeOf s (controlIn r) (remarkOf (not (eqb g 0)) m)) o,
 )

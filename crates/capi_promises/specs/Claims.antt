@@ -2,17 +2,19 @@
 -- Assumes nothing.
 use Prim.Native.Nat.{ℕ}
 use mathlib.Core.Path.{_≡_}
-use mathlib.Core.Bool.{Bool, cond}
+use mathlib.Core.Bool.{Bool, not, cond}
 use mathlib.Core.List.{List}
-use lib.Dec.{eqb, ltb}
+use lib.Dec.{eqb, ltb, leb}
 use lib.ListN.{length}
 use Rattle.machine.specs.declared.Devices.{Devices}
 use Rattle.acceptance.specs.Accept.{sizeFits, cellsFit, controlFits, devicesFit}
+use Rattle.definition_tape.specs.Writing.{remarkOf, remarkFits}
+use Rattle.writer_promises.specs.Claims.{tapeSize}
 use Rattle.capi_records.specs.declared.ControlRecord.{ControlRecord}
 use Rattle.capi_records.specs.declared.CallResult.{CallResult}
 use Rattle.capi_records.specs.declared.StateResult.{StateResult}
 use Rattle.capi_records.specs.declared.AutoloadResult.{AutoloadResult}
-use Rattle.capi_records.specs.Results.{flagsFit, controlIn, Returned, RunReturned, runCall, resetCall, startCall, autoloadCall, loadCall}
+use Rattle.capi_records.specs.Results.{flagsFit, controlIn, Returned, RunReturned, WriteReturned, runCall, resetCall, startCall, autoloadCall, loadCall, writeCall}
 
 -- the number of a run's refusal, 0 where the run is not refused
 abbrev pub numberOf : CallResult → ℕ
@@ -47,6 +49,22 @@ dueOfAutoloadCall s r d cs =
 abbrev pub AutoloadCallNumbers : Type 0
 AutoloadCallNumbers = (s : List ℕ) (r : ControlRecord) (d : Devices) (cs : List ℕ) → autoloadCall s r d cs .result .refusal ≡ dueOfAutoloadCall s r d cs
 
+-- the first of the numbers 1 to 3 and 14 to 16 whose condition is met, 0 for none: the text m is the remark if the byte g is not 0, o is the buffer
+abbrev pub dueOfWrite : List ℕ → ControlRecord → ℕ → List ℕ → List ℕ → ℕ
+dueOfWrite s r g m o =
+    let given = remarkOf (not (eqb g 0)) m in
+    cond (sizeFits (length s))
+    (cond (cellsFit s)
+    (cond (flagsFit r)
+    (cond (controlFits (controlIn r))
+    (cond (remarkFits given)
+    (cond (leb (tapeSize s given) 65536)
+    (cond (leb (tapeSize s given) (length o)) 0 16) 15) 14) 3) 3) 2) 1
+
+-- `write-numbers`: a tape is refused exactly under these conditions
+abbrev pub WriteNumbers : Type 0
+WriteNumbers = (s : List ℕ) (r : ControlRecord) (g : ℕ) (m o : List ℕ) → writeCall s r g m o .result .refusal ≡ dueOfWrite s r g m o
+
 -- a refused run: the control record byte for byte, every cell, the device buffer registers and every byte of the typing buffer as they came; counts,
 -- taken and typed zero
 abbrev pub RunAsGiven : List ℕ → ControlRecord → Devices → List ℕ → RunReturned → Type 0
@@ -63,12 +81,17 @@ StateAsGiven s r x = (x .result .refusal ≡ 0 → ⊥) → (x .result .control 
 abbrev pub AutoloadAsGiven : List ℕ → ControlRecord → Devices → Returned AutoloadResult → Type 0
 AutoloadAsGiven s r d x = (x .result .refusal ≡ 0 → ⊥) → (x .result .control ≡ r) × (x .cells ≡ s) × (x .result .devices ≡ d) × (x .result .taken ≡ 0)
 
+-- a refused tape to be written: every byte of the buffer, and no length
+abbrev pub WriteAsGiven : List ℕ → WriteReturned → Type 0
+WriteAsGiven o x = (x .result .refusal ≡ 0 → ⊥) → (x .result .length ≡ 0) × (x .bytes ≡ o)
+
 -- `refused-as-given`: a refusal changes nothing, for all bytes
 abbrev pub RefusedAsGiven : Type 0
 RefusedAsGiven =
-    (l b : ℕ) (tape s : List ℕ) (r : ControlRecord) (d : Devices) (cs t : List ℕ)
+    (l b g : ℕ) (tape s : List ℕ) (r : ControlRecord) (d : Devices) (cs t m o : List ℕ)
     → RunAsGiven s r d t (runCall l b s r d cs t)
     × StateAsGiven s r (resetCall s r)
     × StateAsGiven s r (startCall s r)
     × AutoloadAsGiven s r d (autoloadCall s r d cs)
     × StateAsGiven s r (loadCall tape s r)
+    × WriteAsGiven o (writeCall s r g m o)

@@ -1,7 +1,7 @@
 -- The C calls (host/include/rc4000.h): the control record as it crosses, its tests, and what each call hands back.
 -- Assumes nothing.
 use Prim.Native.Nat.{ℕ}
-use mathlib.Core.Bool.{Bool, false, cond}
+use mathlib.Core.Bool.{Bool, false, not, cond}
 use mathlib.Core.List.{List}
 use lib.Dec.{eqb, ltb}
 use Rattle.machine.specs.declared.Control.{Control}
@@ -24,12 +24,15 @@ use Rattle.definition_runs.specs.Keys.{Pressed, pressingReset, pressingStart}
 use Rattle.definition_runs.specs.Lent as Lent
 use Rattle.definition_runs.specs.Lent.{runLent, KeyReturned, autoloadLent}
 use Rattle.definition_tape.specs.Load.{judgeThen, Loaded, loading}
+use Rattle.definition_tape.specs.Writing.{remarkOf, Writing, writing}
 use Rattle.definition_tape.specs.declared.Span.{Span}
+use Rattle.definition_tape.specs.declared.Written.{Written}
 use Rattle.capi_records.specs.declared.ControlRecord.{ControlRecord}
 use Rattle.capi_records.specs.declared.CallResult.{CallResult}
 use Rattle.capi_records.specs.declared.StateResult.{StateResult}
 use Rattle.capi_records.specs.declared.AutoloadResult.{AutoloadResult}
 use Rattle.capi_records.specs.declared.TextResult.{TextResult}
+use Rattle.capi_records.specs.declared.WriteResult.{WriteResult}
 
 -- ---- the control record: a flag crosses as a byte
 
@@ -80,6 +83,14 @@ pub record RunReturned : Type 0 where
 abbrev pub runReturned : CallResult → List ℕ → List ℕ → RunReturned
 runReturned r s t = record { result = r; cells = s; typing = t }
 
+-- the output buffer beside the struct
+pub record WriteReturned : Type 0 where
+  pub result : WriteResult
+  pub bytes : List ℕ
+
+abbrev pub writeReturned : WriteResult → List ℕ → WriteReturned
+writeReturned r o = record { result = r; bytes = o }
+
 -- 1 spent, 2 reset, 3 interrupted by an exception, 4 interrupted by a line
 abbrev pub outcomeCode : Outcome → ℕ
 outcomeCode Spent = 1
@@ -129,6 +140,14 @@ abbrev pub autoloadedBy : Verdict → ControlRecord → Devices → Autoloaded �
 autoloadedBy (Rejected q) r d x = refusedAutoload q r d
 autoloadedBy Accepted r d x = record { control = recordOf (x .control); refusal = 0; devices = x .devices; taken = x .taken }
 
+-- a refused machine, remark or buffer: no bytes
+abbrev pub refusedWrite : Refusal → WriteResult
+refusedWrite q = record { refusal = refusalNumber q; length = 0 }
+
+abbrev pub writeResultBy : Verdict → Written → WriteResult
+writeResultBy (Rejected q) x = refusedWrite q
+writeResultBy Accepted x = record { refusal = 0; length = x .length }
+
 -- ---- the calls
 
 -- 3 for a flag byte, then the run; the typing buffer t is handed back beside the store
@@ -167,3 +186,12 @@ loadCall t s r = loadBy r (loading t s (controlIn r))
 -- the first remark's place in the tape
 unfoldable pub textOf : Span → TextResult
 textOf x = record { refusal = x .refusal; found = x .found; start = x .start; end = x .end }
+
+-- 3 for a flag byte, then the tape of the machine
+abbrev pub writeBy : Verdict → List ℕ → Writing → WriteReturned
+writeBy (Rejected q) o x = writeReturned (refusedWrite q) o
+writeBy Accepted o x = writeReturned (writeResultBy (x .answer .verdict) (x .answer)) (x .bytes)
+
+-- the byte g is 0 where no remark is given
+unfoldable pub writeCall : List ℕ → ControlRecord → ℕ → List ℕ → List ℕ → WriteReturned
+writeCall s r g m o = writeBy (judgeFlags s r) o (writing s (controlIn r) (remarkOf (not (eqb g 0)) m) o)

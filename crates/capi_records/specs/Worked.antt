@@ -3,7 +3,7 @@
 use Prim.Native.Nat.{ℕ}
 use mathlib.Core.Path.{_≡_, refl}
 use mathlib.Core.Bool.{Bool, true, false}
-use mathlib.Core.List.{List, [], _∷_}
+use mathlib.Core.List.{List, [], _∷_, _++_}
 use lib.ListN.{replicate}
 use Rattle.machine.specs.declared.Control.{Control}
 use Rattle.machine.specs.declared.Devices.{Devices}
@@ -12,10 +12,10 @@ use Rattle.acceptance.specs.Accept.{sizeFits, cellFits, cellsFit, judgeStore}
 use Rattle.definition_tape.specs.Layout.{recordsWithin, recordsOf}
 use Rattle.definition_tape.specs.Judge.{judgeRecords, judgeTape}
 use Rattle.definition_tape.specs.Load.{judgeLoad, loading}
-use Rattle.definition_tape.specs.Examples.{opened, scopeTape}
+use Rattle.definition_tape.specs.Examples.{opened, openedWriting, scopeTape}
 use Rattle.capi_records.specs.declared.ControlRecord.{ControlRecord}
 use Rattle.capi_records.specs.declared.StateResult.{StateResult}
-use Rattle.capi_records.specs.Results.{flagsFit, flagByte, controlIn, recordOf, judgeFlags, refusedRun, refusedState, Returned, returned, runReturned, runCall, resetCall, startCall, autoloadCall, loadCall}
+use Rattle.capi_records.specs.Results.{flagsFit, flagByte, controlIn, recordOf, judgeFlags, refusedRun, refusedState, Returned, returned, runReturned, writeReturned, runCall, resetCall, startCall, autoloadCall, loadCall, writeCall}
 
 -- a record with the flag bytes m, e and r, and the record with such flags
 abbrev bytes : ℕ → ℕ → ℕ → ControlRecord
@@ -88,3 +88,24 @@ load-accepted :
     ≡ returned (record { control = record { ic = 0; ir = 0; im = 0; pending = 0; pr = 128; ex = 0; monitor = 1; enabled = 0; reset = 1 }; refusal = 0 }) (replicate 8 0)
 unfolding loadCall recordOf flagByte opened
 load-accepted = refl
+
+-- ---- a written tape
+
+abbrev freshBytes : ControlRecord
+freshBytes = record { ic = 0; ir = 0; im = 0; pending = 0; pr = 128; ex = 0; monitor = 1; enabled = 0; reset = 1 }
+
+-- 0 is no remark, every other byte gives one
+no-remark-by-0 : writeCall (replicate 8 0) freshBytes 0 (65 ∷ []) (replicate 33 9) ≡ writeReturned (record { refusal = 0; length = 32 }) (scopeTape ++ (9 ∷ []))
+unfolding writeCall judgeFlags flagsFit controlIn openedWriting
+no-remark-by-0 = refl
+
+remark-by-2 :
+    writeCall (replicate 8 0) freshBytes 2 [] (replicate 39 9)
+    ≡ writeReturned (record { refusal = 0; length = 38 }) (0 ∷ 0 ∷ 0 ∷ 0 ∷ 4 ∷ 0 ∷ (scopeTape ++ (9 ∷ [])))
+unfolding writeCall judgeFlags flagsFit controlIn openedWriting
+remark-by-2 = refl
+
+-- a flag byte of 2 is 3, before 14 and 16
+write-flags : writeCall (replicate 8 0) (bytes 2 0 0) 1 (replicate 256 0) (9 ∷ []) ≡ writeReturned (record { refusal = 3; length = 0 }) (9 ∷ [])
+unfolding writeCall judgeFlags flagsFit judgeStore sizeFits cellsFit cellFits
+write-flags = refl

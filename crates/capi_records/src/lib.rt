@@ -1,6 +1,7 @@
 // The records of the C calls (host/include/rc4000.h). Enums do not cross: an outcome is two numbers, a verdict is one. A flag that comes in is a byte, which is tested; `found` only goes out.
 ghost use mathlib.Core.Path.{_≡_};
-ghost use Rattle.capi_records.specs.Results.{flagByte, flagsFit, controlIn, recordOf, judgeFlags, outcomeCode, outcomeNumber, resultBy, refusedRun, stateBy, refusedState, autoloadedBy, refusedAutoload};
+ghost use Rattle.capi_records.specs.Results.{flagByte, flagsFit, controlIn, recordOf, judgeFlags, outcomeCode, outcomeNumber, resultBy, refusedRun, stateBy, refusedState, autoloadedBy, refusedAutoload, refusedWrite, writeResultBy};
+use definition_tape::Written;
 use machine::Answer;
 use machine::Autoloaded;
 use machine::Control;
@@ -58,6 +59,12 @@ pub struct TextResult {
     pub found: bool,
     pub start: usize,
     pub end: usize,
+}
+
+#[repr(C)]
+pub struct WriteResult {
+    pub refusal: u32,
+    pub length: usize,
 }
 
 fn flag_byte(f: bool) -> u8
@@ -254,5 +261,28 @@ pub fn autoload_result(x: Autoloaded, r: ControlRecord, given: Devices) -> Autol
                 taken: x.taken,
             }
         }
+    }
+}
+
+pub fn refused_write(q: Refusal) -> WriteResult
+    ensures { λ x. ⌜ x ≡ refusedWrite q ⌝ }
+{
+    let n = q.number();
+    WriteResult {
+        refusal: n,
+        length: 0,
+    }
+}
+
+pub fn write_result(x: Written) -> WriteResult
+    ensures { λ y. ⌜ y ≡ writeResultBy (x .verdict) x ⌝ }
+{
+    let v = x.verdict;
+    match v {
+        Verdict::Rejected(q) => refused_write(q),
+        Verdict::Accepted => WriteResult {
+            refusal: 0,
+            length: x.length,
+        },
     }
 }

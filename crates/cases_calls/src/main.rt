@@ -1,4 +1,5 @@
 // Makes the calls of the cases in the file stdin, and writes a line for each. README.md describes both files; host/cases writes them.
+use definition_tape::Written;
 use machine::Answer;
 use machine::Autoloaded;
 use machine::Control;
@@ -221,6 +222,15 @@ fn print_autoloaded(a: Autoloaded, store: &[u32], typing: &[u8]) {
     print_machine(c, d, store, typing);
 }
 
+fn print_written(w: Written, call: Call, store: &[u32], tape: &[u8]) {
+    let v = w.verdict;
+    let c = call.control;
+    let d = call.devices;
+    print_verdict(v);
+    print_count(w.length);
+    print_machine(c, d, store, tape);
+}
+
 fn run_case(store: &mut [u32], characters: &[u8], typing: &mut [u8], call: Call) {
     let c = call.control;
     let d = call.devices;
@@ -249,13 +259,22 @@ fn autoload_case(store: &mut [u32], characters: &[u8], typing: &[u8], call: Call
     print_autoloaded(a, store, typing);
 }
 
+fn write_case(store: &[u32], text: &[u8], tape: &mut [u8], call: Call) {
+    let c = call.control;
+    let given = call.lines == 1;
+    let w = rc4000::write(store, c, given, text, tape);
+    print_written(w, call, store, tape);
+}
+
+// A remark's text stands in place of the characters, an output buffer in place of the typing buffer.
 fn make_call(store: &mut [u32], characters: &[u8], typing: &mut [u8], call: Call) {
     let kind = call.kind;
     match kind {
         0 => run_case(store, characters, typing, call),
         1 => reset_case(store, typing, call),
         2 => start_case(store, typing, call),
-        _ => autoload_case(store, characters, typing, call),
+        3 => autoload_case(store, characters, typing, call),
+        _ => write_case(store, characters, typing, call),
     }
 }
 
@@ -326,8 +345,8 @@ fn all_cases(store: &mut [u32], characters: &mut [u8], typing: &mut [u8], count:
 
 fn main() {
     let mut store = [0u32; 64];
-    let mut characters = [0u8; 40];
-    let mut typing = [0u8; 40];
+    let mut characters = [0u8; 257];
+    let mut typing = [0u8; 512];
     let count = read_number();
     all_cases(&mut store, &mut characters, &mut typing, count);
 }

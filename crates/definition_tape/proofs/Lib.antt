@@ -3,3 +3,7 @@ pub mod Firsts
 pub mod Judged
 pub mod Loads
 pub mod Remarks
+pub mod Bytes
+pub mod Stretches
+pub mod Lengths
+pub mod Machines

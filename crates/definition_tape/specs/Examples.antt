@@ -3,17 +3,21 @@
 use Prim.Native.Nat.{ℕ}
 use mathlib.Core.Bool.{Bool, true, false}
 use mathlib.Core.Path.{_≡_, refl}
+use mathlib.Core.Option.{none, some}
 use mathlib.Core.List.{List, [], _∷_, _++_}
 use lib.ListN.{take, replicate}
 use Rattle.machine.specs.Answers.{verdictNumber}
 use Rattle.machine.specs.Records.{freshRecord}
 use Rattle.machine.specs.declared.Control.{Control}
-use Rattle.machine.specs.declared.Refusal.the-variants.{RecordKind, RecordOrder}
+use Rattle.machine.specs.declared.Refusal.the-variants.{RecordKind, RecordOrder, WrittenLength, BufferLength}
 use Rattle.machine.specs.declared.Verdict.the-variants.{Accepted, Rejected}
-use Rattle.acceptance.specs.Accept.{sizeFits, cellsFit, stateFits, controlFits, judgeStore}
+use Rattle.acceptance.specs.Accept.{sizeFits, cellsFit, stateFits, controlFits, judgeStore, judgeMachine}
 use Rattle.definition_tape.specs.Layout.{lengthOf, kindOf, payloadOf, restOf, recordsWithin, recordsOf, firstOf, cellsFrom, blockCells, controlOf}
 use Rattle.definition_tape.specs.Judge.{kindKnown, inOrder, lengthFits, judgeBlock, controlGood, judgeControl, judgePayload, judgeRecord, judgeRecords, judgeTape}
 use Rattle.definition_tape.specs.Load.{pasted, storedBlock, loadRecord, loadRecords, loadedControl, judgeLoad, loading}
+use Rattle.definition_tape.specs.Blocks.{stretch, blocksFrom, storeBlocks}
+use Rattle.definition_tape.specs.Bytes.{headerBytes, recordBytes, cellsBytes, blockBytes, blocksBytes, controlBytes, remarkBytes, tapeOf}
+use Rattle.definition_tape.specs.Writing.{remarkFits, judgeSize, judgeParts, judgeWriting, writingBy, writing}
 use Rattle.definition_tape.specs.Remark.{judgeReading, noSpan, remarkSpan, placeFrom}
 
 -- opens what a tape is read by
@@ -98,3 +102,35 @@ unknown-kind = refl
 pub second-control : judgeTape 8 (take 26 scopeTape ++ scopeTape) ≡ Rejected RecordOrder
 unfolding opened
 second-control = refl
+
+-- ---- writing
+
+-- opens what a tape is written by
+unfoldable pub openedWriting : ℕ
+unfolding stretch blocksFrom storeBlocks headerBytes recordBytes cellsBytes blockBytes blocksBytes controlBytes remarkBytes tapeOf sizeFits cellsFit stateFits controlFits judgeMachine remarkFits judgeSize judgeParts judgeWriting writing
+openedWriting = 0
+
+-- document 01's tape is the tape of a fresh machine
+pub fresh-tape : tapeOf (replicate 8 0) freshRecord none ≡ scopeTape
+unfolding openedWriting
+fresh-tape = refl
+
+-- a remark of one byte, then the cells 6 and 7 in one block: a key with no word is written
+pub written-block : tapeOf (replicate 6 0 ++ (5 ∷ 117440512 ∷ [])) freshRecord (some (65 ∷ []))
+    ≡ 1 ∷ 0 ∷ 0 ∷ 0 ∷ 4 ∷ 0 ∷ 65 ∷ 12 ∷ 0 ∷ 0 ∷ 0 ∷ 1 ∷ 0 ∷ 6 ∷ 0 ∷ 0 ∷ 0 ∷ 5 ∷ 0 ∷ 0 ∷ 0 ∷ 0 ∷ 0 ∷ 0 ∷ 7 ∷ scopeTape
+unfolding openedWriting
+written-block = refl
+
+-- an empty remark is written, no remark is not
+pub empty-remark : tapeOf (replicate 8 0) freshRecord (some []) ≡ 0 ∷ 0 ∷ 0 ∷ 0 ∷ 4 ∷ 0 ∷ scopeTape
+unfolding openedWriting
+empty-remark = refl
+
+-- 15 before 16; a tape of 65,536 bytes and a buffer as long as the tape pass
+pub sizes : (judgeSize 65537 65536 ≡ Rejected WrittenLength) × (judgeSize 65536 65535 ≡ Rejected BufferLength) × (judgeSize 65536 65536 ≡ Accepted)
+unfolding judgeSize
+sizes = (refl, refl, refl)
+
+-- the bytes of the buffer after the tape stay
+pub buffer-behind : writingBy Accepted (1 ∷ 2 ∷ []) (7 ∷ 8 ∷ 9 ∷ []) ≡ record { bytes = 1 ∷ 2 ∷ 9 ∷ []; answer = record { length = 2; verdict = Accepted } }
+buffer-behind = refl

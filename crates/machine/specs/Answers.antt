@@ -6,7 +6,7 @@ use Rattle.machine.specs.declared.Kind.the-variants.{Exception, Line}
 use Rattle.machine.specs.declared.Verdict.{Verdict}
 use Rattle.machine.specs.declared.Verdict.the-variants.{Accepted, Rejected}
 use Rattle.machine.specs.declared.Refusal.{Refusal}
-use Rattle.machine.specs.declared.Refusal.the-variants.{StoreSize, CellValue, ControlField, Lines, Budget, TapeEnds, RecordKind, RecordLength, BlockPlace, BlockCell, RecordOrder, TapeLength, Device}
+use Rattle.machine.specs.declared.Refusal.the-variants.{StoreSize, CellValue, ControlField, Lines, Budget, TapeEnds, RecordKind, RecordLength, BlockPlace, BlockCell, RecordOrder, TapeLength, Device, RemarkLength, WrittenLength, BufferLength}
 
 -- document 01, "Who can be refused, for what"
 abbrev pub refusalNumber : Refusal → ℕ
@@ -36,6 +36,12 @@ refusalNumber RecordOrder = 11
 refusalNumber TapeLength = 12
 -- a reader character over 63 or a device buffer register over 24 bits (document 02, E1)
 refusalNumber Device = 13
+-- document 02, E2: a remark over 255 bytes
+refusalNumber RemarkLength = 14
+-- a machine whose tape would pass 65,536 bytes
+refusalNumber WrittenLength = 15
+-- an output buffer shorter than the tape
+refusalNumber BufferLength = 16
 
 -- 0: not refused
 abbrev pub verdictNumber : Verdict → ℕ

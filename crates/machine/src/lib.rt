@@ -154,6 +154,9 @@ pub enum Refusal {
     RecordOrder,
     TapeLength,
     Device,
+    RemarkLength,
+    WrittenLength,
+    BufferLength,
 }
 
 impl Refusal {
@@ -174,6 +177,9 @@ impl Refusal {
             Refusal::RecordOrder => 11,
             Refusal::TapeLength => 12,
             Refusal::Device => 13,
+            Refusal::RemarkLength => 14,
+            Refusal::WrittenLength => 15,
+            Refusal::BufferLength => 16,
         }
     }
 }

@@ -7,6 +7,8 @@ ghost use Rattle.definition_runs.specs.Keys.{pressingReset, pressingStart};
 ghost use Rattle.run_promises.specs.Promises.{KeepsProtected, TouchesNoDevice, Counts};
 ghost use Rattle.definition_tape.specs.Load.{loading};
 ghost use Rattle.definition_tape.specs.Remark.{remarkSpan, remarkText, placeFrom};
+ghost use Rattle.definition_tape.specs.Writing.{remarkOf, writing};
+use definition_tape::Written;
 use machine::Answer;
 use machine::Autoloaded;
 use machine::Control;
@@ -93,4 +95,12 @@ pub fn remark<'a>(tape: &'a [u8], cells: usize, found: &mut bool, refusal: &mut 
     ensures number { λ _. ⌜ now (refusal .exit) ≡ remarkSpan (now (tape .entry)) cells .refusal ⌝ }
 {
     tape_remark::remark(tape, cells, found, refusal)
+}
+
+// Writes the tape of a machine into a buffer, with the remark `text` where one is given. On a refusal no byte changes.
+pub fn write(store: &[u32], control: Control, given: bool, text: &[u8], tape: &mut [u8]) -> Written
+    ensures answer { λ r. ⌜ r ≡ writing (now (store .entry)) control (remarkOf given (now (text .entry))) (now (tape .entry)) .answer ⌝ }
+    ensures bytes { λ _. ⌜ now (tape .exit) ≡ writing (now (store .entry)) control (remarkOf given (now (text .entry))) (now (tape .entry)) .bytes ⌝ }
+{
+    tape_write::write(store, control, given, text, tape)
 }

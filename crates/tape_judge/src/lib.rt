@@ -8,6 +8,7 @@ ghost use Rattle.definition_tape.specs.Layout.{cellsFrom, recordsOf};
 ghost use Rattle.definition_tape.specs.Judge.{kindKnown, inOrder, lengthFits, judgeBlock, controlGood, judgeControl, judgePayload, judgeRecord, judgeRecords, judgeTape};
 ghost use Rattle.tape_judge.specs.Steps.{stepAfter, stepOf};
 use acceptance::CELL_RANGE;
+use definition_tape::MOST_BYTES;
 use machine::Refusal;
 use machine::Verdict;
 use tape_records::control_of;
@@ -15,9 +16,6 @@ use tape_records::number_at;
 use tape_records::payload;
 use tape_records::record_kind;
 use tape_records::record_length;
-
-// The bytes of the longest tape.
-const MOST_BYTES: usize = 65536;
 
 // ---- the judge's tests on one record
 

@@ -12,13 +12,14 @@ use lib.Dec.{ltb, eqb}
 use Rattle.machine.specs.declared.Verdict.the-variants.{Accepted}
 use Rattle.acceptance.proofs.Tests.{both}
 use Rattle.acceptance.specs.Accept.{cellsFit}
+use Rattle.definition_tape.specs.Blocks.{Block}
 use Rattle.definition_tape.specs.Layout.{lengthOf, payloadOf, recordsOf, firstOf, firstCell, cellCount, blockCells, flagsOf, controlOf}
 use Rattle.definition_tape.specs.Load.{pasted, storedBlock, loadRecord, loadRecords}
 use Rattle.definition_tape.specs.Remark.{spanBy}
 use Rattle.definition_tape.proofs.Firsts.{first-none, first-here, first-next}
 use Rattle.definition_tape.proofs.Loads.{length-cells, load-more, load-none}
 use Rattle.tape_promises.specs.Grammar.{Header, ControlPayload, Records, block-then, remark-then, control-then-end}
-use Rattle.tape_promises.specs.Contents.{Block, blocksOf, Names, Unnamed, Holds, written, kept, controlPayload, oneIf, ControlFields, firstRemark, spanOf, remarkBytes}
+use Rattle.tape_promises.specs.Contents.{blocksOf, Names, Unnamed, Holds, written, kept, controlPayload, oneIf, ControlFields, firstRemark, spanOf, remarkBytes}
 use Rattle.tape_promises.proofs.Grammars.{Reads, reads}
 
 -- ---- the cells of a store that takes a block

@@ -12,7 +12,7 @@ use lib.Dec.{ltb, leb, eqb}
 use Rattle.machine.specs.Answers.{refusalNumber, verdictNumber}
 use Rattle.machine.specs.declared.Control.{Control}
 use Rattle.machine.specs.declared.Refusal.{Refusal}
-use Rattle.machine.specs.declared.Refusal.the-variants.{StoreSize, CellValue, ControlField, Lines, Budget, TapeEnds, RecordKind, RecordLength, BlockPlace, BlockCell, RecordOrder, TapeLength, Device}
+use Rattle.machine.specs.declared.Refusal.the-variants.{StoreSize, CellValue, ControlField, Lines, Budget, TapeEnds, RecordKind, RecordLength, BlockPlace, BlockCell, RecordOrder, TapeLength, Device, RemarkLength, WrittenLength, BufferLength}
 use Rattle.machine.specs.declared.Verdict.{Verdict}
 use Rattle.machine.specs.declared.Verdict.the-variants.{Accepted, Rejected}
 use Rattle.acceptance.proofs.Tests.{refused}
@@ -29,10 +29,10 @@ use Rattle.tape_promises.specs.Claims.{TapeNumbers, LoadNumbers, Reading
 use Rattle.tape_promises.proofs.Grammars.{control-payload-of, control-good}
 
 -- m is the number that P allows, 0 where it allows none
-abbrev Gives : ℕ → (ℕ → Type 0) → Type 0
+abbrev pub Gives : ℕ → (ℕ → Type 0) → Type 0
 Gives m P = (k : ℕ) → (P k → (m ≡ k) × (0 < k)) × (0 < k → m ≡ k → P k)
 
-gives-none : Gives 0 passed
+pub gives-none : Gives 0 passed
 gives-none k = (λ z. absurd z, λ l e. let no : ⊥ = omega arith in absurd no)
 
 -- a test that is passed
@@ -44,12 +44,12 @@ skip {m} {r} {C} {P} o g k = (at, λ l e. unmet o (g k .1 l e))
     at (unmet x p) = g k .0 p
 
 -- the test b of the code fails exactly if the condition C is met
-record Decides (b : Bool) (C : Type 0) : Type 0 where
-  passes : b ≡ true → C → ⊥
-  fails : b ≡ false → C
+pub record Decides (b : Bool) (C : Type 0) : Type 0 where
+  pub passes : b ≡ true → C → ⊥
+  pub fails : b ≡ false → C
 
 -- a test, of a verdict with what follows it
-tested : (F : Verdict → ℕ) (b : Bool) (v : Verdict) (q : Refusal) {r : ℕ} {C : Type 0} {P : ℕ → Type 0} → F (Rejected q) ≡ r → 0 < r → Decides b C
+pub tested : (F : Verdict → ℕ) (b : Bool) (v : Verdict) (q : Refusal) {r : ℕ} {C : Type 0} {P : ℕ → Type 0} → F (Rejected q) ≡ r → 0 < r → Decides b C
     → (b ≡ true → Gives (F v) P) → Gives (F (cond b v (Rejected q))) (Test r C P)
 tested F true v q f z d g = skip (d .passes refl) (g refl)
 tested F false v q {r} {C} {P} f z d g = λ k. (at k, λ l e. met (d .fails refl) (sym e ∙ f))
@@ -58,7 +58,7 @@ tested F false v q {r} {C} {P} f z d g = λ k. (at k, λ l e. met (d .fails refl
     at k (met c e) = (f ∙ sym e, omega arith)
     at k (unmet x p) = absurd (x (d .fails refl))
 
-not-both : {A : Type 0} {b : Bool} → b ≡ true → b ≡ false → A
+pub not-both : {A : Type 0} {b : Bool} → b ≡ true → b ≡ false → A
 not-both e f = absurd (true≢false (sym e ∙ f))
 
 -- ---- the code's tests
@@ -74,7 +74,7 @@ within low high k = at (ltb k low) refl (leb k high) refl
         record { passes = λ e. ⊎-elim (λ z. omega arith) (λ z. omega arith); fails = λ e. not-both refl e }
     at false p false q = record { passes = λ e. not-both e refl; fails = λ e. inr (leb-false k high q) }
 
-above : (a b : ℕ) → Decides (leb a b) (b < a)
+pub above : (a b : ℕ) → Decides (leb a b) (b < a)
 above a b = record { passes = λ e l. let h = leb-true a b e in omega arith; fails = leb-false a b }
 
 kind-decides : (k : ℕ) → Decides (kindKnown k) ((k < 1) ⊎ (4 < k))
@@ -184,7 +184,8 @@ record-gives n after t =
 verdicts : List Verdict
 verdicts =
     Accepted ∷ Rejected StoreSize ∷ Rejected CellValue ∷ Rejected ControlField ∷ Rejected Lines ∷ Rejected Budget ∷ Rejected TapeEnds ∷ Rejected RecordKind
-    ∷ Rejected RecordLength ∷ Rejected BlockPlace ∷ Rejected BlockCell ∷ Rejected RecordOrder ∷ Rejected TapeLength ∷ Rejected Device ∷ []
+    ∷ Rejected RecordLength ∷ Rejected BlockPlace ∷ Rejected BlockCell ∷ Rejected RecordOrder ∷ Rejected TapeLength ∷ Rejected Device
+    ∷ Rejected RemarkLength ∷ Rejected WrittenLength ∷ Rejected BufferLength ∷ []
 
 told : (v : Verdict) → getD verdicts (verdictNumber v) Accepted ≡ v
 unfolding verdicts
@@ -202,6 +203,9 @@ told (Rejected BlockCell) = refl
 told (Rejected RecordOrder) = refl
 told (Rejected TapeLength) = refl
 told (Rejected Device) = refl
+told (Rejected RemarkLength) = refl
+told (Rejected WrittenLength) = refl
+told (Rejected BufferLength) = refl
 
 same-number : (v w : Verdict) → verdictNumber v ≡ verdictNumber w → v ≡ w
 same-number v w e = sym (told v) ∙ ap (λ (k : ℕ). getD verdicts k Accepted) e ∙ told w
@@ -267,7 +271,7 @@ tape-gives n t =
     tested verdictNumber (leb (length t) 65536) _ TapeLength refl (omega arith) (above (length t) 65536)
     (λ e k. (refused-number, number-refused (suc (length t)) n false t k (omega arith)))
 
-size-decides : (n : ℕ) → Decides (sizeFits n) (SizeRefused n)
+pub size-decides : (n : ℕ) → Decides (sizeFits n) (SizeRefused n)
 unfolding sizeFits
 size-decides n = within 8 8388608 n
 
@@ -283,7 +287,7 @@ unfolding judgeReading
 reading-gives t n = tested verdictNumber (sizeFits n) _ StoreSize refl (omega arith) (size-decides n) (λ a. tape-gives n t)
 
 -- a verdict's number is q's exactly if the verdict is q
-exactly : (v : Verdict) (P : ℕ → Type 0) (q : Refusal) → Gives (verdictNumber v) P → (v ≡ Rejected q → P (refusalNumber q)) × (P (refusalNumber q) → v ≡ Rejected q)
+pub exactly : (v : Verdict) (P : ℕ → Type 0) (q : Refusal) → Gives (verdictNumber v) P → (v ≡ Rejected q → P (refusalNumber q)) × (P (refusalNumber q) → v ≡ Rejected q)
 exactly v P q g = (λ e. g (refusalNumber q) .1 (positive q) (ap verdictNumber e), λ p. same-number v (Rejected q) (g (refusalNumber q) .0 p .0))
 
 pub tape-numbers : TapeNumbers

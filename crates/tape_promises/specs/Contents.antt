@@ -8,13 +8,10 @@ use lib.ListN.{length, getD}
 use Rattle.machine.specs.declared.Control.{Control}
 use Rattle.definition_tape.specs.declared.Span.{Span}
 use Rattle.definition_tape.specs.Layout.{numberAt, firstCell, blockCells, flagsOf}
+use Rattle.definition_tape.specs.Blocks.{Block}
 use Rattle.tape_promises.specs.Grammar.{Records, block-then, remark-then, control-then-end}
 
 -- ---- kind 1, block: first cell index, then the cells
-
-pub record Block : Type 0 where
-  pub first : ℕ
-  pub cells : List ℕ
 
 unfoldable pub blocksOf : {n : ℕ} {t : List ℕ} → Records n t → List Block
 blocksOf (block-then h p t d b r) = record { first = firstCell p; cells = blockCells p } ∷ blocksOf r

@@ -19,6 +19,9 @@ pub trait Machine {
 
     /// Presses the reset key and the autoload key; gives the characters taken.
     fn autoload(&mut self, characters: &[u8]) -> usize;
+
+    /// Writes the machine's tape, with no remark; gives its length.
+    fn write(&self, tape: &mut [u8]) -> usize;
 }
 
 /// The machine of a library; both have the same calls.
@@ -66,6 +69,10 @@ macro_rules! machine {
                 $library::press_reset(store, control).expect("the reset key");
                 $library::press_autoload(store, control, &mut self.devices, characters)
                     .expect("the autoload key")
+            }
+
+            fn write(&self, tape: &mut [u8]) -> usize {
+                $library::write(&self.store, self.control, None, tape).expect("a tape")
             }
         }
     };

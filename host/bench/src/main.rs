@@ -3,9 +3,10 @@
 //! A program is a tape whose loop does not end; it is run with the largest
 //! budget again and again. An autoload is the two keys and a run until the
 //! reader's characters end. Each run is lent the same characters and typing
-//! space. The two machines take their slices of time by turns; the pair of
-//! slices with the median ratio is shown. SECONDS is the time for each row, 4
-//! where it is not given.
+//! space. In the row of the writer a call counts as one instruction. The two
+//! machines take their slices of time by turns; the pair of slices with the
+//! median ratio is shown. SECONDS is the time for each row, 4 where it is not
+//! given.
 //!
 //! `bench MACHINE ROW RUNS`: no table, but so many runs of the program of one
 //! row, 0 to 8, on one machine, `proved` or `emulation`, and the executed
@@ -14,6 +15,7 @@
 mod machine;
 mod rows;
 
+use emulation::MAXIMUM_TAPE;
 use machine::{Emulation, Machine};
 use rows::{Reader, Row, ROWS};
 use std::time::{Duration, Instant};
@@ -33,6 +35,8 @@ struct Loaded<M> {
     autoload: bool,
     characters: Vec<u8>,
     typing: Vec<u8>,
+    /// Where the row writes: the buffer for the tape.
+    written: Option<Vec<u8>>,
 }
 
 impl<M: Machine> Loaded<M> {
@@ -43,11 +47,17 @@ impl<M: Machine> Loaded<M> {
             autoload: matches!(row.reader, Reader::Autoload),
             characters: row.reader.characters(),
             typing: vec![0; row.space],
+            written: row.writes.then(|| vec![0; MAXIMUM_TAPE]),
         }
     }
 
-    /// One run with the whole budget; gives the executed instructions.
+    /// One run with the whole budget; gives the executed instructions. Or one
+    /// call of the writer.
     fn run(&mut self) -> u64 {
+        if let Some(tape) = &mut self.written {
+            assert_ne!(self.machine.write(tape), 0);
+            return 1;
+        }
         let taken = if self.autoload {
             self.machine.autoload(&self.characters)
         } else {
@@ -128,7 +138,7 @@ fn table(seconds: f64) {
     } else {
         "emulation"
     };
-    println!("instructions per second, in millions; ratio of the two speeds");
+    println!("instructions per second, in millions (written tapes in the last row); ratio of the two speeds");
     println!(
         "{:28} {tested:>10} {:>10} {:>7}",
         "program", "emulation", "ratio"

@@ -23,6 +23,8 @@ pub struct Row {
     pub reader: Reader,
     /// Typing space of a run.
     pub space: usize,
+    /// A call of the writer stands in the place of a run.
+    pub writes: bool,
 }
 
 macro_rules! tape {
@@ -39,6 +41,7 @@ const fn program(name: &'static str, tape: &'static [u8]) -> Row {
         budget: LARGEST_BUDGET,
         reader: Reader::Characters(0),
         space: 0,
+        writes: false,
     }
 }
 
@@ -56,7 +59,7 @@ const fn calls(name: &'static str, cells: usize) -> Row {
     }
 }
 
-pub const ROWS: [Row; 11] = [
+pub const ROWS: [Row; 12] = [
     program("register loop", tape!("registers")),
     program("byte copy loop", tape!("bytes")),
     program("multiply loop (WM)", tape!("multiply")),
@@ -77,6 +80,10 @@ pub const ROWS: [Row; 11] = [
     },
     calls("budget 1, 4,096 cells", 4096),
     calls("budget 1, 1,048,576 cells", 1_048_576),
+    Row {
+        writes: true,
+        ..calls("write, 1,048,576 cells", 1_048_576)
+    },
 ];
 
 impl Reader {

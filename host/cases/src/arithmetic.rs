@@ -173,6 +173,11 @@ fn conversions() -> Vec<Machine> {
             machines.push(machine.program(&[instruction(name, 1, 0, 2, 0)]));
         }
     }
+    // The register before the integer is zero.
+    for integer in EDGES {
+        let machine = machine().registers([0, integer, 0, 0]);
+        machines.push(machine.program(&[instruction("CI", 1, 0, 0, 0)]));
+    }
     machines
 }
 

@@ -1,21 +1,28 @@
 //! The bytes of the cases and the lines of their answers.
 //!
 //! A case is a row of numbers of 4 bytes, little-endian: the call (0 run, 1 reset
-//! key, 2 start key, 3 autoload key), the number of cells, lines, budget, seven
-//! fields of the control record, the device buffer registers of reader and
+//! key, 2 start key, 3 autoload key, 4 write), the number of cells, lines, budget,
+//! seven fields of the control record, the device buffer registers of reader and
 //! typewriter, the number of characters, the length of the typing buffer; then
 //! the cells, the characters and the bytes of the typing buffer, a number each.
+//! A write has the remark in place of the characters, the output buffer in place
+//! of the typing buffer, and in place of the lines 1 where a remark is given,
+//! else 0.
 //!
 //! An answer is a line: of a run outcome, number, executed, entries, taken and
 //! typed; of the reset and start keys the refusal; of the autoload key the
-//! refusal and taken. Then for every call the seven fields, the two registers
-//! and the checksums of the cells and of the typing buffer.
+//! refusal and taken; of a write the refusal and the length of the tape. Then for
+//! every call the seven fields, the two registers and the checksums of the cells
+//! and of the typing or output buffer.
 
-use protocol::{Control, Devices, Kind, Listed, Outcome, Refusal, Report, Request, Run};
+use protocol::{
+    output_buffer, Control, Devices, Kind, Listed, Outcome, Refusal, Report, Request, Run,
+};
 use std::fmt::Write;
 
 /// What a case asks for, with a store of all its cells. What a call does not
-/// take is zero or empty.
+/// take is zero or empty. `characters` are those of the reader or of a remark,
+/// `typing` is a typing buffer or an output buffer.
 struct Call {
     kind: u32,
     store: Vec<u32>,
@@ -51,7 +58,17 @@ impl Call {
                 characters: characters.clone(),
                 ..Call::key(3, store, control)
             },
-            _ => panic!("a case is a run or a key"),
+            Request::Write(write) => Call::write(write),
+            _ => panic!("a case is a run, a key or a write"),
+        }
+    }
+
+    fn write(write: &protocol::Write) -> Self {
+        Call {
+            lines: u32::from(write.remark.is_some()),
+            characters: write.remark.clone().unwrap_or_default(),
+            typing: output_buffer(write.space),
+            ..Call::key(4, &write.store, &write.control)
         }
     }
 
@@ -111,10 +128,13 @@ impl Call {
             )),
             1 => vec![refusal(emulation::press_reset(store, control))],
             2 => vec![refusal(emulation::press_start(store, control))],
-            _ => match emulation::press_autoload(store, control, devices, characters) {
-                Ok(taken) => vec![0, taken as u32],
-                Err(refusal) => vec![refusal.number(), 0],
-            },
+            3 => of_count(emulation::press_autoload(
+                store, control, devices, characters,
+            )),
+            _ => {
+                let remark = (self.lines == 1).then_some(&characters[..]);
+                of_count(emulation::write(store, *control, remark, &mut self.typing))
+            }
         }
     }
 
@@ -145,6 +165,14 @@ fn of_run(result: Result<Report, Refusal>) -> Vec<u32> {
             ]
         }
         Err(refusal) => vec![0, refusal.number(), 0, 0, 0, 0],
+    }
+}
+
+/// The refusal, and how many were taken or written.
+fn of_count(result: Result<usize, Refusal>) -> Vec<u32> {
+    match result {
+        Ok(count) => vec![0, count as u32],
+        Err(refusal) => vec![refusal.number(), 0],
     }
 }
 

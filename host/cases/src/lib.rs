@@ -1,5 +1,5 @@
-//! The stored cases of `crates/cases_calls`: runs and keys on small stores, with the
-//! answers of the emulation.
+//! The stored cases of `crates/cases_calls`: runs, keys and writes on small
+//! stores, with the answers of the emulation.
 //!
 //! The format of the two files is described in `crates/cases_calls/README.md`.
 
@@ -14,6 +14,7 @@ mod machine;
 mod papers;
 mod refusals;
 mod sequences;
+mod writes;
 
 pub use files::{answers, input};
 
@@ -32,6 +33,12 @@ pub const CELLS: usize = 64;
 /// The most characters, and the most bytes of a typing buffer.
 pub const LENT: usize = 40;
 
+/// The most bytes of a remark.
+pub const REMARK: usize = 257;
+
+/// The most bytes of an output buffer.
+pub const BUFFER: usize = 512;
+
 /// The most cycles of a random case that is not refused.
 const CYCLES: u32 = 12;
 
@@ -45,11 +52,12 @@ pub fn cases(seed: u64) -> Vec<Request> {
         .chain(arithmetic::cases())
         .chain(sequences::cases())
         .chain(devices::cases())
+        .chain(writes::cases())
         .chain(random.filter(is_small).take(RANDOM))
         .collect()
 }
 
-/// A run or a key on few cells, of few cycles.
+/// A run, a key or a write on few cells, of few cycles.
 fn is_small(request: &Request) -> bool {
     match request {
         Request::Run(run) => {
@@ -62,6 +70,11 @@ fn is_small(request: &Request) -> bool {
         } => store.size <= CELLS && characters.len() <= LENT,
         Request::PressReset { store, .. } | Request::PressStart { store, .. } => {
             store.size <= CELLS
+        }
+        Request::Write(write) => {
+            write.store.size <= CELLS
+                && write.remark.as_ref().map_or(0, Vec::len) <= REMARK
+                && write.space <= BUFFER
         }
         _ => false,
     }

@@ -1,7 +1,7 @@
 //! A machine that a case is made of.
 
 use compare::{assemble, MNEMONICS, WORD};
-use protocol::{Control, Devices, Listed, Request, Run};
+use protocol::{Control, Devices, Listed, Request, Run, Write};
 
 /// The one key that a machine in task mode allows.
 const ALLOWED: u32 = 1;
@@ -189,6 +189,17 @@ impl Machine {
             devices: self.devices,
             characters: self.characters.clone(),
         }
+    }
+
+    /// The case that writes it, with a remark if given, into a buffer of so
+    /// many bytes.
+    pub fn write(&self, remark: Option<&[u8]>, space: usize) -> Request {
+        Request::Write(Write {
+            store: self.listed(),
+            control: self.control,
+            remark: remark.map(<[u8]>::to_vec),
+            space,
+        })
     }
 
     /// The case that presses the reset key.

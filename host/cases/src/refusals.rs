@@ -19,6 +19,7 @@ fn every_call(machine: &Machine) -> Vec<Request> {
         machine.press_reset(),
         machine.press_start(),
         machine.press_autoload(),
+        machine.write(Some(b"part"), 90),
     ]
 }
 

@@ -8,6 +8,7 @@ use crate::generator::Case;
 use crate::stretch::Stretch;
 use crate::tapes::DAMAGES;
 use crate::words::WORD;
+use crate::write_events::{write_events, WRITE_EVENTS};
 use protocol::{Answer, Control, Kind, Outcome, Request, Run};
 use std::collections::BTreeMap;
 use std::fmt;
@@ -20,13 +21,14 @@ pub const MNEMONICS: [&str; 64] = [
     "FA", "FS", "FM", "KS", "FD", "CF", "DL", "DS", "AA", "SS", "58", "59", "60", "61", "62", "63",
 ];
 
-const CALLS: [&str; 6] = [
+const CALLS: [&str; 7] = [
     "run",
     "reset key",
     "start key",
     "autoload key",
     "load",
     "remark",
+    "write",
 ];
 const MODES: [&str; 4] = ["X+D", "(X+D)", "X+IC+D", "(X+IC+D)"];
 
@@ -100,7 +102,7 @@ const EVENTS: [&str; 28] = [
 ];
 
 fn all_events() -> impl Iterator<Item = &'static str> {
-    EVENTS.into_iter().chain(DEVICE_EVENTS)
+    EVENTS.into_iter().chain(DEVICE_EVENTS).chain(WRITE_EVENTS)
 }
 
 fn add<K: Ord>(counts: &mut BTreeMap<K, u64>, key: K) {
@@ -148,6 +150,7 @@ impl Coverage {
                 let taken = !matches!(answer, Answer::Refused(_));
                 self.event_if(taken && tape.len() == 65_536, "tape of 65,536 bytes");
             }
+            Request::Write(write) => self.events(write_events(write, answer)),
             _ => (),
         }
     }
@@ -175,6 +178,7 @@ impl Coverage {
             Request::PressAutoload { .. } => 3,
             Request::Load { .. } => 4,
             Request::Remark { .. } => 5,
+            Request::Write(_) => 6,
         };
         let number = match answer {
             Answer::Refused(refusal) => refusal.number(),
@@ -327,6 +331,11 @@ impl Coverage {
         }
     }
 
+    /// How many machines were written.
+    pub fn written(&self) -> u64 {
+        times(&self.answers, (6, 0))
+    }
+
     /// What no case was about.
     pub fn missing(&self) -> Vec<String> {
         let mut missing = self.missing_instructions();
@@ -396,13 +405,14 @@ fn absent<K: Ord + Copy>(
 }
 
 /// The refusals that each call can give; 0 stands for none.
-const EXPECTED_ANSWERS: [&[u32]; 6] = [
+const EXPECTED_ANSWERS: [&[u32]; 7] = [
     &[0, 1, 2, 3, 4, 5, 13],
     &[0, 1, 2, 3],
     &[0, 1, 2, 3],
     &[0, 1, 2, 3, 13],
     &[0, 1, 2, 3, 6, 7, 8, 9, 10, 11, 12],
     &[0, 1, 3, 6, 7, 8, 9, 10, 11, 12],
+    &[0, 1, 2, 3, 14, 15, 16],
 ];
 
 fn byte(store: &[u32], address: u32) -> Option<u32> {
@@ -517,7 +527,7 @@ impl Coverage {
                 "  {name}: done {}",
                 times(&self.answers, (call, 0))
             )?;
-            for number in 1..=13 {
+            for number in 1..=16 {
                 if let Some(times) = self.answers.get(&(call, number)) {
                     write!(formatter, ", refused {number} {times}")?;
                 }

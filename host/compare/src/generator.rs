@@ -4,7 +4,8 @@ use crate::lent::{self, refuse_device};
 use crate::machines::{self, Image};
 use crate::random::Random;
 use crate::tapes::{self, Damage};
-use protocol::{Request, Run};
+use crate::writes::{self, refuse_length, refuse_remark, refuse_space};
+use protocol::{Request, Run, Write};
 
 /// A request, with what was done to its tape.
 pub struct Case {
@@ -18,6 +19,9 @@ pub struct Case {
 pub fn case(seed: u64, number: u64) -> Case {
     let mut random = Random::for_case(seed, number);
     let random = &mut random;
+    if random.one_in(7) {
+        return without_tape(write(random));
+    }
     match random.below(100) {
         0..=71 => without_tape(run(random)),
         72..=75 => without_tape(autoload_key(random)),
@@ -160,6 +164,27 @@ fn remark(random: &mut Random) -> Case {
     }
 }
 
+fn write(random: &mut Random) -> Request {
+    let mut writing = writes::writing(random);
+    // From the last test to the first: 5 brings another store and buffer.
+    for number in refusals(random, 6).into_iter().rev() {
+        match number {
+            1 => refuse_size(random, &mut writing.image),
+            2 => refuse_cell(random, &mut writing.image),
+            3 => refuse_control(random, &mut writing.image),
+            4 => refuse_remark(random, &mut writing),
+            5 => refuse_length(random, &mut writing),
+            _ => refuse_space(random, &mut writing),
+        }
+    }
+    Request::Write(Write {
+        store: writing.image.listed(),
+        control: writing.image.control,
+        remark: writing.remark,
+        space: writing.space,
+    })
+}
+
 /// Which of a call's refusals to bring about, 1 to `last` in the order of its
 /// tests: mostly none, else one, two neighbours, or some.
 fn refusals(random: &mut Random, last: u32) -> Vec<u32> {
@@ -180,6 +205,7 @@ fn refuse_size(random: &mut Random, image: &mut Image) {
     } else {
         image.size = random.pick(&[0, 1, 3, 6, 7, 7]);
         image.low.truncate(image.size);
+        image.high.clear();
     }
 }
 

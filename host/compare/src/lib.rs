@@ -12,16 +12,19 @@ mod random;
 mod stretch;
 mod tapes;
 mod words;
+mod write_events;
+mod writes;
 
 pub use coverage::{Coverage, MNEMONICS};
 pub use generator::{case, Case};
 pub use tapes::{Damage, DAMAGES};
 pub use words::{assemble, WORD};
 
-use protocol::{Answer, FrontEnd, Machine, Request};
+use protocol::{Answer, FrontEnd, Listed, Machine, Request, Write};
 use std::fmt;
 
-/// The first request that two machines answer differently.
+/// The first request that two machines answer differently, or both with what
+/// no machine should answer.
 pub struct Difference {
     /// Which case of the seed it is.
     pub number: u64,
@@ -29,7 +32,7 @@ pub struct Difference {
     pub request: Request,
     /// What the machine under test answers.
     pub tested: Answer,
-    /// What the machine it is measured by answers.
+    /// What the machine it is measured by answers, or what a written tape gives.
     pub expected: Answer,
 }
 
@@ -43,7 +46,8 @@ impl fmt::Display for Difference {
 }
 
 /// Asks both machines the first `count` cases of `seed`, up to the first
-/// difference. What the cases were about is counted in `coverage`.
+/// difference. What the cases were about is counted in `coverage`. A written
+/// tape is loaded again by both.
 pub fn compare(
     tested: impl Machine,
     expected: impl Machine,
@@ -56,16 +60,78 @@ pub fn compare(
     for number in 0..count {
         let case = case(seed, number);
         let answers = [tested.answer(&case.request), expected.answer(&case.request)];
-        let [tested, expected] = answers;
-        if tested != expected {
-            return Err(Box::new(Difference {
-                number,
-                request: case.request,
-                tested,
-                expected,
-            }));
+        let [given, answer] = answers;
+        coverage.count(&case, &answer);
+        let again = loaded_again(&case.request, &answer);
+        same(number, case.request, given, answer)?;
+        for (request, answer) in again.into_iter().flatten() {
+            for given in [tested.answer(&request), expected.answer(&request)] {
+                same(number, request.clone(), given, answer.clone())?;
+            }
         }
-        coverage.count(&case, &expected);
     }
     Ok(())
+}
+
+/// Whether an answer is the one that is expected, and one that may be given.
+fn same(
+    number: u64,
+    request: Request,
+    tested: Answer,
+    expected: Answer,
+) -> Result<(), Box<Difference>> {
+    if tested == expected && !tested.is_wrong() {
+        return Ok(());
+    }
+    Err(Box::new(Difference {
+        number,
+        request,
+        tested,
+        expected,
+    }))
+}
+
+/// For a written tape: its load into as many cells of zero and the reading of
+/// its remark, with the answers that they must have.
+fn loaded_again(request: &Request, answer: &Answer) -> Option<[(Request, Answer); 2]> {
+    let (Request::Write(write), Answer::Written(tape)) = (request, answer) else {
+        return None;
+    };
+    let Write {
+        store,
+        control,
+        remark,
+        ..
+    } = write;
+    let load = Request::Load {
+        store: Listed {
+            size: store.size,
+            cells: Vec::new(),
+        },
+        tape: tape.clone(),
+    };
+    let mut changed = store.cells.clone();
+    changed.retain(|&(_, value)| value != 0);
+    let loaded = Answer::Done {
+        control: *control,
+        changed,
+    };
+    let read = Request::Remark {
+        cells: store.size,
+        tape: tape.clone(),
+    };
+    Some([(load, loaded), (read, remark_on(tape, remark.as_deref()))])
+}
+
+/// What a reader answers where a tape begins with this remark, or has none. No
+/// reader answers `Bad`, which stands for another text on the tape.
+fn remark_on(tape: &[u8], remark: Option<&[u8]>) -> Answer {
+    let Some(text) = remark else {
+        return Answer::Remark(None);
+    };
+    let place = 6..6 + text.len();
+    match tape.get(place.clone()) {
+        Some(found) if found == text => Answer::Remark(Some(place)),
+        _ => Answer::Bad,
+    }
 }

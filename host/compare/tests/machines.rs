@@ -1,7 +1,9 @@
 //! The emulation against itself, and against machines with one flaw each.
 
 use compare::{case, compare, Coverage};
-use protocol::{Control, Devices, Emulation, Kind, Machine, Outcome, Refusal, Report, Request};
+use protocol::{
+    Control, Devices, Emulation, Kind, Listed, Machine, Outcome, Refusal, Report, Request,
+};
 
 #[test]
 fn no_difference_and_nothing_missing() {
@@ -17,6 +19,32 @@ fn a_case_prints_as_the_request_that_it_is() {
     for number in 0..2000 {
         let request = case(3, number).request;
         assert_eq!(Request::parse(&request.to_string()), Ok(request));
+    }
+}
+
+/// The store of a request that has one.
+fn store_of(request: &Request) -> Option<&Listed> {
+    match request {
+        Request::Run(run) => Some(&run.store),
+        Request::Write(write) => Some(&write.store),
+        Request::PressReset { store, .. }
+        | Request::PressStart { store, .. }
+        | Request::PressAutoload { store, .. }
+        | Request::Load { store, .. } => Some(store),
+        Request::Remark { .. } => None,
+    }
+}
+
+/// Among these is a machine with the largest store whose number of cells was
+/// then made too small.
+#[test]
+fn the_cells_of_a_case_rise() {
+    for number in 400_000..440_000 {
+        let request = case(4001, number).request;
+        if let Some(Listed { size, cells }) = store_of(&request) {
+            assert!(cells.windows(2).all(|two| two[0].0 < two[1].0), "{number}");
+            assert!(cells.iter().all(|&(index, _)| index < *size), "{number}");
+        }
     }
 }
 
@@ -49,7 +77,63 @@ enum Flaw {
     AutoloadTakesNone,
     AutoloadKeepsReader,
     AutoloadRefusalChangesReader,
+    WritesNoKeyAlone,
+    WritesNoEmptyRemark,
+    WritesOtherText,
+    WritesOtherControl,
+    WritesBlocksInTwo,
+    WritesOneByteLess,
+    WritesBehindTape,
+    WritesBeyondBuffer,
+    WriteRefusalChangesTape,
+    WriteRefusesExactBuffer,
+    WriteRefusesLongestTape,
+    WriteRefusesLongestRemark,
+    WriteTestsBufferFirst,
 }
+
+/// All of them.
+const FLAWS: [Flaw; 39] = [
+    Flaw::Outcome,
+    Flaw::LineNumber,
+    Flaw::Executed,
+    Flaw::Cell,
+    Flaw::Carry,
+    Flaw::RefusalNumber,
+    Flaw::RefusalChangesStore,
+    Flaw::RefusalChangesControl,
+    Flaw::ResetKeyKeepsPending,
+    Flaw::StartKeyKeepsBit23,
+    Flaw::LoadsOneCellLess,
+    Flaw::Remark,
+    Flaw::RefusalChangesReader,
+    Flaw::RefusalChangesTypewriter,
+    Flaw::RefusalChangesTyping,
+    Flaw::Taken,
+    Flaw::Typed,
+    Flaw::TypesNothing,
+    Flaw::ChangesBehindTyped,
+    Flaw::ReaderRegister,
+    Flaw::TypewriterRegister,
+    Flaw::AutoloadKeepsKey,
+    Flaw::AutoloadKeepsException,
+    Flaw::AutoloadTakesNone,
+    Flaw::AutoloadKeepsReader,
+    Flaw::AutoloadRefusalChangesReader,
+    Flaw::WritesNoKeyAlone,
+    Flaw::WritesNoEmptyRemark,
+    Flaw::WritesOtherText,
+    Flaw::WritesOtherControl,
+    Flaw::WritesBlocksInTwo,
+    Flaw::WritesOneByteLess,
+    Flaw::WritesBehindTape,
+    Flaw::WritesBeyondBuffer,
+    Flaw::WriteRefusalChangesTape,
+    Flaw::WriteRefusesExactBuffer,
+    Flaw::WriteRefusesLongestTape,
+    Flaw::WriteRefusesLongestRemark,
+    Flaw::WriteTestsBufferFirst,
+];
 
 /// The emulation with one flaw.
 struct Flawed(Flaw);
@@ -197,43 +281,163 @@ impl Machine for Flawed {
             _ => text,
         })
     }
+
+    fn write(
+        &self,
+        store: &[u32],
+        control: Control,
+        remark: Option<&[u8]>,
+        tape: &mut [u8],
+    ) -> Result<usize, Refusal> {
+        let (store, control) = self.spoil_written(store, control);
+        let remark = match self.0 {
+            Flaw::WritesNoEmptyRemark => remark.filter(|text| !text.is_empty()),
+            _ => remark,
+        };
+        let result = Emulation.write(&store, control, remark, tape);
+        match result {
+            Ok(length) => self.spoil_tape(length, remark, tape),
+            Err(refusal) => Err(self.spoil_write_refusal(refusal, tape)),
+        }
+    }
+}
+
+impl Flawed {
+    /// What is written instead of this machine.
+    fn spoil_written(&self, store: &[u32], mut control: Control) -> (Vec<u32>, Control) {
+        let mut store = store.to_vec();
+        match self.0 {
+            Flaw::WritesNoKeyAlone if store.iter().all(|&cell| cell < 1 << 27) => {
+                let alone = store.iter_mut().filter(|cell| **cell & 0xff_ffff == 0);
+                alone.for_each(|cell| *cell = 0);
+            }
+            Flaw::WritesOtherControl if control.pending > 2 => control.pending -= 1,
+            _ => (),
+        }
+        (store, control)
+    }
+
+    /// What becomes of a tape that was written.
+    fn spoil_tape(
+        &self,
+        length: usize,
+        remark: Option<&[u8]>,
+        tape: &mut [u8],
+    ) -> Result<usize, Refusal> {
+        let text = remark.map_or(0, <[u8]>::len);
+        match self.0 {
+            Flaw::WritesOtherText if text == 255 => tape[6 + 254] ^= 1,
+            Flaw::WritesBlocksInTwo => return Ok(in_two(length, tape)),
+            Flaw::WritesOneByteLess => return Ok(length - 1),
+            Flaw::WritesBehindTape => tape[length..].iter_mut().for_each(|byte| *byte = 0),
+            Flaw::WritesBeyondBuffer => return Ok(length + 1),
+            Flaw::WriteRefusesExactBuffer if tape.len() == length => {
+                return Err(Refusal::BufferLength)
+            }
+            Flaw::WriteRefusesLongestTape if length == 65_536 => {
+                tape.copy_from_slice(&lent(tape.len()));
+                return Err(Refusal::WrittenLength);
+            }
+            Flaw::WriteRefusesLongestRemark if text == 255 => {
+                tape.copy_from_slice(&lent(tape.len()));
+                return Err(Refusal::RemarkLength);
+            }
+            _ => (),
+        }
+        Ok(length)
+    }
+
+    /// What becomes of a refusal to write.
+    fn spoil_write_refusal(&self, refusal: Refusal, tape: &mut [u8]) -> Refusal {
+        match self.0 {
+            Flaw::WriteRefusalChangesTape => tape.iter_mut().take(1).for_each(|byte| *byte ^= 1),
+            Flaw::WriteTestsBufferFirst if tape.len() < 65_536 => {
+                if let Refusal::WrittenLength = refusal {
+                    return Refusal::BufferLength;
+                }
+            }
+            _ => (),
+        }
+        refusal
+    }
+}
+
+/// What the front end lends for a tape.
+fn lent(space: usize) -> Vec<u8> {
+    (0..space).map(|place| (place % 255) as u8 + 1).collect()
+}
+
+/// Makes two blocks of the first one, where there is one of two cells or more
+/// and room for it; the length of the tape.
+fn in_two(length: usize, tape: &mut [u8]) -> usize {
+    let is_block = tape[4..6] == [1, 0];
+    let (cells, first) = (tape[0] / 4, tape[6]);
+    if !is_block || tape[1] != 0 || cells < 3 || first > 250 || tape.len() < length + 10 {
+        return length;
+    }
+    tape.copy_within(14..length, 24);
+    let second = [tape[0] - 4, 0, 0, 0, 1, 0, first + 1, 0, 0, 0];
+    tape[14..24].copy_from_slice(&second);
+    tape[0] = 8;
+    length + 10
 }
 
 #[test]
 fn every_flaw_is_found() {
-    let flaws = [
-        Flaw::Outcome,
-        Flaw::LineNumber,
-        Flaw::Executed,
-        Flaw::Cell,
-        Flaw::Carry,
-        Flaw::RefusalNumber,
-        Flaw::RefusalChangesStore,
-        Flaw::RefusalChangesControl,
-        Flaw::ResetKeyKeepsPending,
-        Flaw::StartKeyKeepsBit23,
-        Flaw::LoadsOneCellLess,
-        Flaw::Remark,
-        Flaw::RefusalChangesReader,
-        Flaw::RefusalChangesTypewriter,
-        Flaw::RefusalChangesTyping,
-        Flaw::Taken,
-        Flaw::Typed,
-        Flaw::TypesNothing,
-        Flaw::ChangesBehindTyped,
-        Flaw::ReaderRegister,
-        Flaw::TypewriterRegister,
-        Flaw::AutoloadKeepsKey,
-        Flaw::AutoloadKeepsException,
-        Flaw::AutoloadTakesNone,
-        Flaw::AutoloadKeepsReader,
-        Flaw::AutoloadRefusalChangesReader,
-    ];
-    for flaw in flaws {
+    for flaw in FLAWS {
         let mut coverage = Coverage::default();
         let result = compare(Flawed(flaw), Emulation, 1, 100_000, &mut coverage);
         let difference = result.err().unwrap_or_else(|| panic!("{flaw:?} not found"));
         let shown = Request::parse(&difference.request.to_string());
         assert_eq!(shown, Ok(difference.request));
     }
+}
+
+/// A flaw that both machines have shows where a written tape is loaded again.
+#[test]
+fn a_flaw_of_both_writers_is_found() {
+    for flaw in [
+        Flaw::WritesNoKeyAlone,
+        Flaw::WritesNoEmptyRemark,
+        Flaw::WritesOtherText,
+        Flaw::WritesOtherControl,
+        Flaw::LoadsOneCellLess,
+        Flaw::Remark,
+    ] {
+        let mut coverage = Coverage::default();
+        let result = compare(Flawed(flaw), Flawed(flaw), 1, 100_000, &mut coverage);
+        let difference = result.err().unwrap_or_else(|| panic!("{flaw:?} not found"));
+        let request = difference.request;
+        assert!(matches!(
+            request,
+            Request::Load { .. } | Request::Remark { .. }
+        ));
+    }
+}
+
+/// What no machine should answer is found where both answer so.
+#[test]
+fn a_change_that_both_make_is_found() {
+    for flaw in [
+        Flaw::RefusalChangesStore,
+        Flaw::RefusalChangesTyping,
+        Flaw::ChangesBehindTyped,
+        Flaw::WritesOneByteLess,
+        Flaw::WritesBehindTape,
+        Flaw::WriteRefusalChangesTape,
+    ] {
+        let mut coverage = Coverage::default();
+        let result = compare(Flawed(flaw), Flawed(flaw), 1, 100_000, &mut coverage);
+        let difference = result.err().unwrap_or_else(|| panic!("{flaw:?} not found"));
+        assert_eq!(difference.tested, difference.expected);
+    }
+}
+
+/// At least one case in ten is a machine that is written.
+#[test]
+fn many_machines_are_written() {
+    let mut coverage = Coverage::default();
+    let result = compare(Emulation, Emulation, 4000, 50_000, &mut coverage);
+    assert!(result.is_ok());
+    assert!(coverage.written() > 5000, "{}", coverage.written());
 }

@@ -31,6 +31,12 @@ pub enum Refusal {
     TapeLength = 12,
     /// 13: a reader character over 63 or a device buffer register over 24 bits.
     Device = 13,
+    /// 14: a remark over 255 bytes.
+    RemarkLength = 14,
+    /// 15: a machine whose tape would pass 65,536 bytes.
+    WrittenLength = 15,
+    /// 16: an output buffer shorter than the tape.
+    BufferLength = 16,
 }
 
 impl Refusal {
@@ -56,6 +62,9 @@ impl Refusal {
             RecordOrder,
             TapeLength,
             Device,
+            RemarkLength,
+            WrittenLength,
+            BufferLength,
         ];
         all.into_iter().find(|refusal| refusal.number() == number)
     }

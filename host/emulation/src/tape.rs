@@ -1,4 +1,5 @@
-//! The load tape and its remark (01, "Load tape").
+//! The load tape and its remark (01, "Load tape"), and the writer of tapes (02,
+//! E2).
 
 use crate::control::Control;
 use crate::refusal::Refusal;
@@ -6,8 +7,12 @@ use crate::store::{check_size, check_store, CELL_LIMIT};
 
 /// The most bytes of a tape.
 pub const MAXIMUM_TAPE: usize = 65_536;
+/// The most bytes of a remark.
+pub const MAXIMUM_REMARK: usize = 255;
 
 const HEADER: usize = 6;
+/// The bytes of a control record after its header.
+const CONTROL: usize = 20;
 
 /// The kinds of records.
 #[derive(Clone, Copy, PartialEq, Eq)]
@@ -34,9 +39,9 @@ impl RecordKind {
     fn check_length(self, length: usize) -> Result<(), Refusal> {
         let fits = match self {
             RecordKind::Block => length >= 8 && length % 4 == 0,
-            RecordKind::Control => length == 20,
+            RecordKind::Control => length == CONTROL,
             RecordKind::End => length == 0,
-            RecordKind::Remark => length <= 255,
+            RecordKind::Remark => length <= MAXIMUM_REMARK,
         };
         if fits {
             Ok(())
@@ -177,4 +182,121 @@ pub fn remark(tape: &[u8], cells: usize) -> Result<Option<&[u8]>, Refusal> {
     Ok(records(tape)
         .find(|record| record.kind == RecordKind::Remark)
         .map(|record| record.payload))
+}
+
+/// The stretches of cells that are not zero, each as long as can be, in rising
+/// order: the first cell's index and the cells.
+fn stretches(store: &[u32]) -> impl Iterator<Item = (usize, &[u32])> {
+    let mut place = 0;
+    std::iter::from_fn(move || {
+        let first = place + store[place..].iter().position(|&cell| cell != 0)?;
+        let rest = &store[first..];
+        let count = rest.iter().position(|&cell| cell == 0);
+        let stretch = &rest[..count.unwrap_or(rest.len())];
+        place = first + stretch.len();
+        Some((first, stretch))
+    })
+}
+
+/// The payload length of a block.
+fn block_length(stretch: &[u32]) -> usize {
+    4 + 4 * stretch.len()
+}
+
+/// The length of the tape of a machine.
+fn tape_length(store: &[u32], remark: Option<&[u8]>) -> usize {
+    let remark = remark.map_or(0, |text| HEADER + text.len());
+    let blocks: usize = stretches(store)
+        .map(|(_, stretch)| HEADER + block_length(stretch))
+        .sum();
+    remark + blocks + HEADER + CONTROL + HEADER
+}
+
+/// Refusals 14, 15 and 16, in this order; the length of the tape.
+fn check_written(store: &[u32], remark: Option<&[u8]>, buffer: &[u8]) -> Result<usize, Refusal> {
+    if remark.is_some_and(|text| text.len() > MAXIMUM_REMARK) {
+        return Err(Refusal::RemarkLength);
+    }
+    let length = tape_length(store, remark);
+    if length > MAXIMUM_TAPE {
+        return Err(Refusal::WrittenLength);
+    }
+    if buffer.len() < length {
+        return Err(Refusal::BufferLength);
+    }
+    Ok(length)
+}
+
+/// The payload of a control record.
+fn control_payload(control: &Control) -> [u8; CONTROL] {
+    let mut payload = [0; CONTROL];
+    let words = [control.ic, control.ir, control.im, control.pending];
+    for (part, word) in payload.chunks_exact_mut(4).zip(words) {
+        part.copy_from_slice(&word.to_le_bytes());
+    }
+    let [monitor, enabled, reset] = [control.monitor, control.enabled, control.reset].map(u8::from);
+    payload[16] = control.pr as u8;
+    payload[17] = control.ex as u8;
+    payload[18] = monitor + 2 * enabled + 4 * reset;
+    payload
+}
+
+/// Writes bytes one after the other into a buffer that has room for them.
+struct Output<'a> {
+    buffer: &'a mut [u8],
+    length: usize,
+}
+
+impl Output<'_> {
+    fn bytes(&mut self, bytes: &[u8]) {
+        let end = self.length + bytes.len();
+        self.buffer[self.length..end].copy_from_slice(bytes);
+        self.length = end;
+    }
+
+    fn number(&mut self, number: u32) {
+        self.bytes(&number.to_le_bytes());
+    }
+
+    fn header(&mut self, kind: RecordKind, length: usize) {
+        self.number(length as u32);
+        self.bytes(&(kind as u16).to_le_bytes());
+    }
+
+    fn record(&mut self, kind: RecordKind, payload: &[u8]) {
+        self.header(kind, payload.len());
+        self.bytes(payload);
+    }
+
+    fn block(&mut self, first: usize, stretch: &[u32]) {
+        self.header(RecordKind::Block, block_length(stretch));
+        self.number(first as u32);
+        for &cell in stretch {
+            self.number(cell);
+        }
+    }
+}
+
+/// Writes the tape of a machine to the front of `buffer`, whose other bytes
+/// stay: the remark if given, the cells that are not zero as blocks, control and
+/// end. Hands back the length of the tape.
+pub fn write(
+    store: &[u32],
+    control: Control,
+    remark: Option<&[u8]>,
+    buffer: &mut [u8],
+) -> Result<usize, Refusal> {
+    check_store(store)?;
+    control.check()?;
+    let length = check_written(store, remark, buffer)?;
+    let mut output = Output { buffer, length: 0 };
+    if let Some(text) = remark {
+        output.record(RecordKind::Remark, text);
+    }
+    for (first, stretch) in stretches(store) {
+        output.block(first, stretch);
+    }
+    output.record(RecordKind::Control, &control_payload(&control));
+    output.record(RecordKind::End, &[]);
+    Ok(length)
 }

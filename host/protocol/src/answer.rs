@@ -42,15 +42,25 @@ pub enum Answer {
     },
     /// The part of the tape that is its first remark, or none.
     Remark(Option<Range<usize>>),
+    /// The tape that was written.
+    Written(Vec<u8>),
     /// A refusal; all that was lent came back as given.
     Refused(Refusal),
     /// A refusal that changed something, which no machine should give.
     RefusedAndChanged(Refusal),
-    /// A call that took or typed more than was lent, or changed the typing
-    /// buffer behind what it typed, which no machine should give.
+    /// A call that took, typed or wrote more than was lent, or changed what it
+    /// only reads or a buffer behind what it typed or wrote, which no machine
+    /// should give.
     BeyondLent,
     /// A request that cannot be read.
     Bad,
+}
+
+impl Answer {
+    /// Whether no machine should give it, whatever the request.
+    pub fn is_wrong(&self) -> bool {
+        matches!(self, Answer::RefusedAndChanged(_) | Answer::BeyondLent)
+    }
 }
 
 /// Writes control record and changed cells.
@@ -73,6 +83,18 @@ fn write_outcome(formatter: &mut fmt::Formatter, outcome: Outcome) -> fmt::Resul
     }
 }
 
+/// Writes device buffer registers and typing buffer.
+fn write_lent(formatter: &mut fmt::Formatter, devices: &Devices, typing: &[u8]) -> fmt::Result {
+    write_devices(formatter, devices)?;
+    write!(formatter, " ")?;
+    write_bytes(formatter, typing)
+}
+
+fn write_tape(formatter: &mut fmt::Formatter, tape: &[u8]) -> fmt::Result {
+    write!(formatter, "tape ")?;
+    write_bytes(formatter, tape)
+}
+
 impl fmt::Display for Answer {
     fn fmt(&self, formatter: &mut fmt::Formatter) -> fmt::Result {
         match self {
@@ -87,9 +109,7 @@ impl fmt::Display for Answer {
                 write!(formatter, " {} {} ", report.executed, report.entries)?;
                 write_machine(formatter, control, changed)?;
                 write!(formatter, " {} {} ", report.taken, report.typed)?;
-                write_devices(formatter, devices)?;
-                write!(formatter, " ")?;
-                write_bytes(formatter, typing)
+                write_lent(formatter, devices, typing)
             }
             Answer::Autoload {
                 control,
@@ -108,6 +128,7 @@ impl fmt::Display for Answer {
             }
             Answer::Remark(None) => write!(formatter, "none"),
             Answer::Remark(Some(text)) => write!(formatter, "at {} {}", text.start, text.end),
+            Answer::Written(tape) => write_tape(formatter, tape),
             Answer::Refused(refusal) => write!(formatter, "{refusal}"),
             Answer::RefusedAndChanged(refusal) => write!(formatter, "{refusal} and changed"),
             Answer::BeyondLent => write!(formatter, "beyond what was lent"),

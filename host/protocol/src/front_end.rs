@@ -2,13 +2,17 @@
 
 use crate::answer::Answer;
 use crate::machine::Machine;
-use crate::request::{Listed, Request, Run};
-use emulation::{Control, Devices, Refusal, Report, MAXIMUM_CELLS};
+use crate::request::{self, Listed, Request, Run};
+use emulation::{Control, Devices, Refusal, Report, MAXIMUM_CELLS, MAXIMUM_TAPE};
 use std::io::{BufRead, Write};
 use std::ops::Range;
 
 /// Cells looked at together in the search for those that are not zero.
 const CHUNK: usize = 1024;
+
+/// The most bytes of an output buffer. A longer one is stood for by this many,
+/// more than any tape has.
+const LONGEST_BUFFER: usize = 2 * MAXIMUM_TAPE;
 
 /// The record that a loader is given; it breaks every rule, and a loader
 /// neither tests it nor changes it where it refuses.
@@ -76,6 +80,7 @@ impl<M: Machine> FrontEnd<M> {
                 Ok(text) => Answer::Remark(text.map(|text| part_of(tape, text))),
                 Err(refusal) => Answer::Refused(refusal),
             },
+            Request::Write(write) => self.write(write),
         }
     }
 
@@ -136,6 +141,27 @@ impl<M: Machine> FrontEnd<M> {
                 let kept = (control, devices) == (given, lent);
                 refused(refusal, kept && changed.is_empty())
             }
+        }
+    }
+
+    fn write(&mut self, given: &request::Write) -> Answer {
+        let size = self.lay_out(&given.store);
+        let remark = given.remark.clone();
+        let lent = output_buffer(given.space);
+        let mut tape = lent.clone();
+        let store = &self.store[..size];
+        let result = self
+            .machine
+            .write(store, given.control, remark.as_deref(), &mut tape);
+        let changed = self.collect_changes(&given.store, size);
+        let kept = changed.is_empty() && remark == given.remark;
+        match result {
+            Ok(length) if kept && length <= tape.len() && tape[length..] == lent[length..] => {
+                tape.truncate(length);
+                Answer::Written(tape)
+            }
+            Ok(_) => Answer::BeyondLent,
+            Err(refusal) => refused(refusal, kept && tape == lent),
         }
     }
 
@@ -205,6 +231,13 @@ fn keeps_to_lent(given: &Run, report: &Report, typing: &[u8]) -> bool {
     report.taken <= given.characters.len()
         && report.typed <= typing.len()
         && typing[report.typed..] == given.typing[report.typed..]
+}
+
+/// An output buffer as it is lent to a writer, with something in each byte,
+/// never zero.
+pub fn output_buffer(space: usize) -> Vec<u8> {
+    let places = 0..space.min(LONGEST_BUFFER);
+    places.map(|place| (place % 255) as u8 + 1).collect()
 }
 
 fn refused(refusal: Refusal, as_given: bool) -> Answer {

@@ -5,7 +5,9 @@
 //! fields, `ic ir im pending pr ex monitor enabled reset`, the last three 0 or
 //! 1; `tape` is lower-case hex, `-` for no byte. `dev0 dev1` are the device
 //! buffer registers, `chars` the reader's characters in hex, `typing` the typing
-//! buffer with what it holds, in an answer the whole buffer after the run.
+//! buffer with what it holds, in an answer the whole buffer after the run. In
+//! `write`, `remark` is `none`, `-` for an empty one, or hex, and `buffer` the
+//! length of the output buffer.
 //!
 //! | request | answer |
 //! |---|---|
@@ -14,6 +16,7 @@
 //! | `keyautoload N cells ctl dev0 dev1 chars` | `ok ctl changed taken dev0 dev1` |
 //! | `load N cells tape` | `ok ctl changed` |
 //! | `remark N tape` | `none` or `at S E` |
+//! | `write N cells ctl remark buffer` | `tape HEX` |
 //!
 //! OUTCOME is `spent`, `reset`, `exception` or `line:K`. A refusal answers
 //! `refused K`, a request that cannot be read `bad`. `changed` lists the cells
@@ -31,8 +34,8 @@ mod request;
 
 pub use answer::Answer;
 pub use emulation::{Control, Devices, Kind, Outcome, Refusal, Report};
-pub use front_end::{serve, FrontEnd};
+pub use front_end::{output_buffer, serve, FrontEnd};
 pub use machine::{Emulation, Machine};
 #[cfg(feature = "proved")]
 pub use proved::Proved;
-pub use request::{Bad, Listed, Request, Run};
+pub use request::{Bad, Listed, Request, Run, Write};

@@ -1,4 +1,4 @@
-//! What answers a request: the six calls of a machine.
+//! What answers a request: the seven calls of a machine.
 
 use emulation::{Control, Devices, Refusal, Report};
 
@@ -37,6 +37,16 @@ pub trait Machine {
 
     /// The first remark of a tape that loads into a store of `cells` cells.
     fn remark<'t>(&self, tape: &'t [u8], cells: usize) -> Result<Option<&'t [u8]>, Refusal>;
+
+    /// Writes a machine, with a remark if given, to the front of `tape`; hands
+    /// back the length.
+    fn write(
+        &self,
+        store: &[u32],
+        control: Control,
+        remark: Option<&[u8]>,
+        tape: &mut [u8],
+    ) -> Result<usize, Refusal>;
 }
 
 /// The emulation as a machine.
@@ -80,5 +90,15 @@ impl Machine for Emulation {
 
     fn remark<'t>(&self, tape: &'t [u8], cells: usize) -> Result<Option<&'t [u8]>, Refusal> {
         emulation::remark(tape, cells)
+    }
+
+    fn write(
+        &self,
+        store: &[u32],
+        control: Control,
+        remark: Option<&[u8]>,
+        tape: &mut [u8],
+    ) -> Result<usize, Refusal> {
+        emulation::write(store, control, remark, tape)
     }
 }

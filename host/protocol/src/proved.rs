@@ -129,4 +129,14 @@ impl Machine for Proved {
     fn remark<'t>(&self, tape: &'t [u8], cells: usize) -> Result<Option<&'t [u8]>, Refusal> {
         rc4000::remark(tape, cells).map_err(refusal)
     }
+
+    fn write(
+        &self,
+        store: &[u32],
+        control: Control,
+        remark: Option<&[u8]>,
+        tape: &mut [u8],
+    ) -> Result<usize, Refusal> {
+        rc4000::write(store, to_library(&control), remark, tape).map_err(refusal)
+    }
 }

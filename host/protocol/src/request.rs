@@ -36,6 +36,19 @@ pub struct Run {
     pub typing: Vec<u8>,
 }
 
+/// What a writer is given.
+#[derive(Clone, Debug, PartialEq, Eq)]
+pub struct Write {
+    /// The store.
+    pub store: Listed,
+    /// The control record.
+    pub control: Control,
+    /// The remark; none and an empty one differ.
+    pub remark: Option<Vec<u8>>,
+    /// The length of the output buffer.
+    pub space: usize,
+}
+
 /// One line of requests.
 #[derive(Clone, Debug, PartialEq, Eq)]
 pub enum Request {
@@ -80,6 +93,8 @@ pub enum Request {
         /// The tape.
         tape: Vec<u8>,
     },
+    /// `write N cells ctl remark buffer`.
+    Write(Write),
 }
 
 impl Request {
@@ -112,6 +127,12 @@ impl Request {
                 cells: number(cells)?,
                 tape: bytes(tape)?,
             }),
+            ["write", size, cells, ref control @ .., remark, space] => Ok(Request::Write(Write {
+                store: listed(size, cells)?,
+                control: control_fields(control)?,
+                remark: optional_bytes(remark)?,
+                space: number(space)?,
+            })),
             _ => Err(Bad),
         }
     }
@@ -209,6 +230,14 @@ fn bytes(field: &str) -> Result<Vec<u8>, Bad> {
         .collect()
 }
 
+/// `none`, or bytes.
+fn optional_bytes(field: &str) -> Result<Option<Vec<u8>>, Bad> {
+    match field {
+        "none" => Ok(None),
+        _ => bytes(field).map(Some),
+    }
+}
+
 fn hex_digit(digit: u8) -> Result<u8, Bad> {
     match digit {
         b'0'..=b'9' => Ok(digit - b'0'),
@@ -287,6 +316,20 @@ impl fmt::Display for Run {
     }
 }
 
+impl fmt::Display for Write {
+    /// The fields after the name.
+    fn fmt(&self, formatter: &mut fmt::Formatter) -> fmt::Result {
+        write!(formatter, "{} ", self.store)?;
+        write_control(formatter, &self.control)?;
+        write!(formatter, " ")?;
+        match &self.remark {
+            None => write!(formatter, "none")?,
+            Some(text) => write_bytes(formatter, text)?,
+        }
+        write!(formatter, " {}", self.space)
+    }
+}
+
 impl fmt::Display for Request {
     /// The line that parses as this request.
     fn fmt(&self, formatter: &mut fmt::Formatter) -> fmt::Result {
@@ -321,6 +364,7 @@ impl fmt::Display for Request {
                 write!(formatter, "remark {cells} ")?;
                 write_bytes(formatter, tape)
             }
+            Request::Write(write) => write!(formatter, "write {write}"),
         }
     }
 }

@@ -11,7 +11,7 @@ fn vectors(name: &str) -> String {
 
 #[test]
 fn stored_answers() {
-    let (cases, answers) = (vectors("e1.cases"), vectors("e1.answers"));
+    let (cases, answers) = (vectors("e2.cases"), vectors("e2.answers"));
     let mut output = Vec::new();
     serve(Emulation, cases.as_bytes(), &mut output).unwrap();
     let output = String::from_utf8(output).unwrap();
@@ -23,7 +23,7 @@ fn stored_answers() {
 
 #[test]
 fn requests_print_as_they_are_read() {
-    for line in vectors("e1.cases").lines() {
+    for line in vectors("e2.cases").lines() {
         let request = Request::parse(line).unwrap();
         assert_eq!(Request::parse(&request.to_string()), Ok(request));
     }
@@ -49,6 +49,15 @@ fn bad_requests() {
         "load 8 - 0g",
         "load 8 - 0",
         "remark 8",
+        "write 8 - 0 0 0 0 128 0 1 0 0 none",
+        "write 8 - 0 0 0 0 128 0 1 0 0 none 32 0",
+        "write 8 - 0 0 0 0 128 0 1 0 none 32",
+        "write 8 8=1 0 0 0 0 128 0 1 0 0 none 32",
+        "write 8 - 0 0 0 0 128 0 1 0 0 None 32",
+        "write 8 - 0 0 0 0 128 0 1 0 0 0 32",
+        "write 8 - 0 0 0 0 128 0 1 0 0  32",
+        "write 8 - 0 0 0 0 128 0 1 0 0 none -1",
+        "write 8 - 0 0 0 0 128 0 1 0 0 none +32",
     ] {
         assert_eq!(front_end.answer_line(line).to_string(), "bad", "{line}");
     }
@@ -64,4 +73,22 @@ fn the_store_is_zero_again_for_the_next_request() {
     assert_eq!(answers[1], "ok 0 0 0 0 128 0 1 0 1 -");
     let many = "load 99999999999 99999999998=5 -";
     assert_eq!(front_end.answer_line(many).to_string(), "refused 1");
+}
+
+#[test]
+fn written_tapes() {
+    let mut front_end = FrontEnd::new(Emulation);
+    let control = format!("140000000200{}80000500", "00".repeat(16));
+    let last = format!("{control}000000000300");
+    let mut answer = |remark: &str, space: &str| {
+        let line = format!("write 8 - 0 0 0 0 128 0 1 0 1 {remark} {space}");
+        front_end.answer_line(&line).to_string()
+    };
+    assert_eq!(answer("none", "32"), format!("tape {last}"));
+    assert_eq!(answer("none", "99999999999"), format!("tape {last}"));
+    assert_eq!(answer("-", "38"), format!("tape 000000000400{last}"));
+    assert_eq!(answer("0aff", "40"), format!("tape 0200000004000aff{last}"));
+    assert_eq!(answer("none", "31"), "refused 16");
+    assert_eq!(answer("none", "0"), "refused 16");
+    assert_eq!(answer(&"00".repeat(256), "0"), "refused 14");
 }

@@ -50,6 +50,12 @@ pub struct Text {
     pub end: usize,
 }
 
+#[repr(C)]
+pub struct Written {
+    pub refusal: u32,
+    pub length: usize,
+}
+
 extern "C" {
     pub fn rc4000_run(
         store: *mut u32,
@@ -81,6 +87,16 @@ extern "C" {
         length: usize,
     ) -> State;
     pub fn rc4000_remark(tape: *const u8, length: usize, cells: usize) -> Text;
+    pub fn rc4000_write(
+        store: *const u32,
+        cells: usize,
+        control: ControlRecord,
+        given: u8,
+        text: *const u8,
+        text_length: usize,
+        tape: *mut u8,
+        space: usize,
+    ) -> Written;
 }
 
 const _: () = {
@@ -105,6 +121,8 @@ const _: () = {
     assert!(size_of::<Text>() == 24);
     assert!(offset_of!(Text, found) == 4);
     assert!(offset_of!(Text, start) == 8);
+    assert!(size_of::<Written>() == 16);
+    assert!(offset_of!(Written, length) == 8);
 };
 
 impl From<Control> for ControlRecord {
@@ -201,6 +219,19 @@ impl State {
         match self.refusal {
             0 => Ok(()),
             number => Err(refusal(number)),
+        }
+    }
+}
+
+impl Written {
+    /// The tape's length.
+    pub fn hand_back(self) -> Result<usize, Refusal> {
+        match self.refusal {
+            0 => Ok(self.length),
+            number => {
+                assert!(self.length == 0);
+                Err(refusal(number))
+            }
         }
     }
 }

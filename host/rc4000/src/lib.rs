@@ -25,6 +25,9 @@ struct Readme;
 pub use machine::Machine;
 pub use types::{cell, key, line, word, Control, Devices, Kind, Outcome, Refusal, Report};
 
+/// The most bytes of a tape: a buffer of so many has room for every tape.
+pub const LONGEST_TAPE: usize = 65_536;
+
 /// Runs at most `budget` cycles, at most 65,535; the raised `lines` (bits 3 to
 /// 23) join IR first.
 ///
@@ -138,4 +141,34 @@ pub fn remark(tape: &[u8], cells: usize) -> Result<Option<&[u8]>, Refusal> {
         return Err(ffi::refusal(text.refusal));
     }
     Ok(text.found.then(|| &tape[text.start..text.end]))
+}
+
+/// Writes the tape of a machine into the buffer `tape`, whose bytes behind it
+/// are kept, and gives the tape's length. A remark has at most 255 bytes; an
+/// empty one is written too. Store and control record are only read.
+///
+/// [`load`] of these bytes into as many cells of zero gives the same store and
+/// control record. The device buffer registers are not on a tape.
+pub fn write(
+    store: &[u32],
+    control: Control,
+    remark: Option<&[u8]>,
+    tape: &mut [u8],
+) -> Result<usize, Refusal> {
+    let text = remark.unwrap_or_default();
+    // SAFETY: each pointer and length are those of one slice, lent for the
+    // call; store and text are only read.
+    let written = unsafe {
+        ffi::rc4000_write(
+            store.as_ptr(),
+            store.len(),
+            control.into(),
+            remark.is_some().into(),
+            text.as_ptr(),
+            text.len(),
+            tape.as_mut_ptr(),
+            tape.len(),
+        )
+    };
+    written.hand_back()
 }

@@ -1,6 +1,7 @@
 //! A machine with a store of its own.
 
 use crate::types::{cell, key, word, Control, Devices, Refusal, Report};
+use crate::LONGEST_TAPE;
 
 /// A store, its control record and the device buffer registers. Each method is
 /// the call of the same name on them; on a refusal they are as before.
@@ -32,6 +33,16 @@ impl Machine {
     /// Loads a tape: its blocks into the store, and its control record.
     pub fn load(&mut self, tape: &[u8]) -> Result<(), Refusal> {
         crate::load(&mut self.store, &mut self.control, tape)
+    }
+
+    /// The machine's tape, with this remark first where one is given. Loaded
+    /// into a machine with as many cells of zero it gives this store and
+    /// control record; the device buffer registers are not on it.
+    pub fn write(&self, remark: Option<&[u8]>) -> Result<Vec<u8>, Refusal> {
+        let mut tape = vec![0; LONGEST_TAPE];
+        let length = crate::write(&self.store, self.control, remark, &mut tape)?;
+        tape.truncate(length);
+        Ok(tape)
     }
 
     /// Runs at most `budget` cycles with these raised lines, characters and

@@ -166,6 +166,12 @@ pub enum Refusal {
     /// 13: a reader character over 63, or a device buffer register over 24
     /// bits.
     Device = 13,
+    /// 14: a remark over 255 bytes.
+    RemarkLength = 14,
+    /// 15: a machine whose tape would pass 65,536 bytes.
+    WrittenLength = 15,
+    /// 16: a buffer shorter than the tape.
+    BufferLength = 16,
 }
 
 impl Refusal {
@@ -196,6 +202,9 @@ impl Refusal {
             Refusal::Device => {
                 "a reader character over 63, or a device buffer register over 24 bits"
             }
+            Refusal::RemarkLength => "a remark over 255 bytes",
+            Refusal::WrittenLength => "a machine whose tape would pass 65,536 bytes",
+            Refusal::BufferLength => "a buffer shorter than the tape",
         }
     }
 
@@ -215,6 +224,9 @@ impl Refusal {
             11 => Refusal::RecordOrder,
             12 => Refusal::TapeLength,
             13 => Refusal::Device,
+            14 => Refusal::RemarkLength,
+            15 => Refusal::WrittenLength,
+            16 => Refusal::BufferLength,
             _ => return None,
         })
     }

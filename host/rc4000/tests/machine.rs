@@ -155,7 +155,7 @@ fn lines_are_numbered_from_the_left() {
     assert_eq!((line(24), line(u32::MAX)), (0, 0));
 }
 
-/// The numbers of the header's refusals by name.
+/// The numbers of the header's names.
 fn header_numbers() -> HashMap<&'static str, u32> {
     HEADER
         .lines()
@@ -167,24 +167,31 @@ fn header_numbers() -> HashMap<&'static str, u32> {
         .collect()
 }
 
+/// The header's name of a refusal: `RC4000_STORE_SIZE` for `StoreSize`.
+fn name_in_c(refusal: Refusal) -> String {
+    let mut name = "RC4000".to_string();
+    for letter in format!("{refusal:?}").chars() {
+        if letter.is_uppercase() {
+            name.push('_');
+        }
+        name.push(letter.to_ascii_uppercase());
+    }
+    name
+}
+
 #[test]
 fn a_refusal_says_what_it_means_as_in_c() {
     let numbers = header_numbers();
-    let (mut name, mut met) = ("", 0);
-    for text in HEADER.lines().map(str::trim) {
-        if let Some(case) = text.strip_prefix("case RC4000_") {
-            name = case.trim_end_matches(':');
-        } else if let Some(said) = text.strip_prefix("return \"") {
-            let Some(number) = numbers.get(format!("RC4000_{name}").as_str()) else {
-                continue;
-            };
-            let refusal = Refusal::from_number(*number).unwrap();
-            assert_eq!(said.trim_end_matches("\";"), refusal.text());
-            met |= 1 << number;
-            name = "";
-        }
+    let (_, rest) = HEADER.split_once("texts[] = {").unwrap();
+    let (texts, _) = rest.split_once("};").unwrap();
+    let said: Vec<&str> = texts.trim().lines().skip(1).map(str::trim).collect();
+    assert_eq!(said.len(), 16);
+    for (number, text) in (1..).zip(said) {
+        let refusal = Refusal::from_number(number).unwrap();
+        assert_eq!(text, format!("\"{}\",", refusal.text()));
+        assert_eq!(numbers.get(name_in_c(refusal).as_str()), Some(&number));
     }
-    assert_eq!(met, 0b11_1111_1111_1110);
+    assert_eq!(Refusal::from_number(17), None);
 }
 
 #[test]

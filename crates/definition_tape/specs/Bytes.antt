@@ -1,0 +1,61 @@
+-- The bytes of a machine's tape: the layout that the loader reads (Layout.antt), the other way round.
+-- Assumes nothing.
+use Prim.Native.Nat.{ℕ, _+_, _/_, _%_}
+use mathlib.Core.Bool.{Bool, true, false}
+use mathlib.Core.Option.{Option, none, some}
+use mathlib.Core.List.{List, [], _∷_, _++_}
+use lib.ListN.{length}
+use Rattle.machine.specs.declared.Control.{Control}
+use Rattle.definition_tape.specs.Blocks.{Block, storeBlocks}
+
+-- ---- numbers, little-endian: `numberAt` reads back the four bytes of a number below 4,294,967,296
+abbrev pub bytes2 : ℕ → List ℕ
+bytes2 n = n % 256 ∷ n / 256 % 256 ∷ []
+
+abbrev pub bytes4 : ℕ → List ℕ
+bytes4 n = n % 256 ∷ n / 256 % 256 ∷ n / 65536 % 256 ∷ n / 16777216 % 256 ∷ []
+
+-- ---- a record: payload length (4 bytes), kind (2 bytes), payload
+unfoldable pub headerBytes : ℕ → ℕ → List ℕ
+headerBytes k l = bytes4 l ++ bytes2 k
+
+unfoldable pub recordBytes : ℕ → List ℕ → List ℕ
+recordBytes k p = headerBytes k (length p) ++ p
+
+-- ---- kind 1, block: first cell index (4), then the cells (4 each)
+unfoldable pub cellsBytes : List ℕ → List ℕ
+cellsBytes [] = []
+cellsBytes (x ∷ s) = bytes4 x ++ cellsBytes s
+
+unfoldable pub blockBytes : Block → List ℕ
+blockBytes b = bytes4 (b .first) ++ cellsBytes (b .cells)
+
+unfoldable pub blocksBytes : List Block → List ℕ
+blocksBytes [] = []
+blocksBytes (b ∷ bs) = recordBytes 1 (blockBytes b) ++ blocksBytes bs
+
+-- ---- kind 2, control: IC, IR, IM, pending (4 each), PR, EX, flags (1 each: 1 monitor, 2 enabled, 4 reset, summed), a zero byte
+abbrev pub flag : Bool → ℕ → ℕ
+flag true v = v
+flag false v = 0
+
+abbrev pub flagsByte : Control → ℕ
+flagsByte c = flag (c .monitor) 1 + flag (c .enabled) 2 + flag (c .reset) 4
+
+unfoldable pub controlBytes : Control → List ℕ
+controlBytes c =
+    bytes4 (c .ic) ++ (bytes4 (c .ir) ++ (bytes4 (c .im) ++ (bytes4 (c .pending) ++ (c .pr % 256 ∷ c .ex % 256 ∷ flagsByte c ∷ 0 ∷ []))))
+
+-- ---- kind 4, remark: none, or its text, which may be empty
+unfoldable pub remarkBytes : Option (List ℕ) → List ℕ
+remarkBytes none = []
+remarkBytes (some r) = recordBytes 4 r
+
+-- the bytes that a remark takes
+unfoldable pub remarkSize : Option (List ℕ) → ℕ
+remarkSize none = 0
+remarkSize (some r) = 6 + length r
+
+-- ---- the tape of the machine with the cells s and the control record c: remark, blocks, control, end (kind 3)
+unfoldable pub tapeOf : List ℕ → Control → Option (List ℕ) → List ℕ
+tapeOf s c m = remarkBytes m ++ (blocksBytes (storeBlocks s) ++ (recordBytes 2 (controlBytes c) ++ recordBytes 3 []))

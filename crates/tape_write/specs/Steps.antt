@@ -1,0 +1,37 @@
+-- For the functions inside the crate; no public contract rests on it. Bytes put into a buffer, and the blocks from a cell on.
+-- Assumes nothing.
+use Prim.Native.Nat.{ℕ, _+_, _*_, _%_}
+use mathlib.Core.Bool.{false, cond}
+use mathlib.Core.List.{List, [], _∷_, _++_}
+use mathlib.Core.Option.{Option}
+use lib.ListN.{length, take, drop}
+use lib.Dec.{eqb}
+use Rattle.machine.specs.declared.Control.{Control}
+use Rattle.definition_tape.specs.Blocks.{blocksFrom}
+use Rattle.definition_tape.specs.Bytes.{recordBytes, blockBytes, blocksBytes, flagsByte, tapeOf}
+use Rattle.definition_tape.specs.Writing.{judgeParts, Writing, writingBy}
+
+-- the bytes bs from the place `at` of the buffer on, the others as they are
+unfoldable pub put : List ℕ → ℕ → List ℕ → List ℕ
+put out at bs = take at out ++ (bs ++ drop (at + length bs) out)
+
+-- the blocks of the store s from its cell i on
+unfoldable pub blocksAfter : List ℕ → ℕ → List ℕ
+blocksAfter s i = blocksBytes (blocksFrom false i (drop i s))
+
+-- the block of the cells cs, the first of which is the cell i; nothing for no cells
+unfoldable pub stretchBytes : ℕ → List ℕ → List ℕ
+stretchBytes i [] = []
+stretchBytes i (x ∷ cs) = recordBytes 1 (blockBytes (record { first = i; cells = x ∷ cs }))
+
+-- how many bytes a block of k cells takes
+abbrev pub blockSize : ℕ → ℕ
+blockSize k = cond (eqb k 0) 0 (10 + 4 * k)
+
+-- the last four bytes of the control record
+unfoldable pub stateBytes : Control → List ℕ
+stateBytes c = c .pr % 256 ∷ c .ex % 256 ∷ flagsByte c ∷ 0 ∷ []
+
+-- an accepted machine
+unfoldable pub writtenAs : List ℕ → Control → Option (List ℕ) → List ℕ → Writing
+writtenAs s c m out = writingBy (judgeParts s c m (length out)) (tapeOf s c m) out

@@ -1,0 +1,283 @@
+// Writing tapes: a machine and its remark into a lent buffer (document 02, E2). The first pass over the store counts the tape's bytes, the second
+// writes them. A function that writes takes the buffer and a place in it, and leaves all other bytes as they are.
+ghost use mathlib.Core.Path.{_≡_};
+ghost use mathlib.Core.Bool.{true};
+ghost use Prim.Native.Nat.{_+_, _*_, _%_, _≤_};
+ghost use lib.ListN.{length, drop};
+ghost use Rattle.definition_tape.specs.Blocks.{stretch, storeBlocks};
+ghost use Rattle.definition_tape.specs.Bytes.{bytes2, bytes4, headerBytes, recordBytes, cellsBytes, blocksBytes, flag, flagsByte, controlBytes, remarkBytes, remarkSize, tapeOf};
+ghost use Rattle.definition_tape.specs.Writing.{remarkOf, remarkFits, refusedWriting, writing};
+ghost use Rattle.tape_write.specs.Steps.{put, stretchBytes, blockSize, stateBytes, writtenAs};
+use definition_tape::MOST_BYTES;
+use definition_tape::Written;
+use machine::Control;
+use machine::Refusal;
+use machine::Verdict;
+
+// ---- numbers, little-endian
+
+fn low(n: u32) -> u8
+    ensures { λ r. ⌜ r ≡ n % 256 ⌝ }
+{
+    (n % 256) as u8
+}
+
+fn put_pair(out: &mut [u8], at: usize, n: u32)
+    requires { ⌜ at + 2 ≤ length (now out) ⌝ }
+    ensures { λ _. ⌜ now (out .exit) ≡ put (now (out .entry)) at (bytes2 n) ⌝ }
+{
+    out[at] = low(n);
+    out[at + 1] = low(n / 256);
+}
+
+fn put_number(out: &mut [u8], at: usize, n: u32)
+    requires { ⌜ at + 4 ≤ length (now out) ⌝ }
+    ensures { λ _. ⌜ now (out .exit) ≡ put (now (out .entry)) at (bytes4 n) ⌝ }
+{
+    out[at] = low(n);
+    out[at + 1] = low(n / 256);
+    out[at + 2] = low(n / 65536);
+    out[at + 3] = low(n / 16777216);
+}
+
+// A record's header: the kind k and the payload's length l.
+fn put_header(out: &mut [u8], at: usize, k: u32, l: u32)
+    requires { ⌜ at + 6 ≤ length (now out) ⌝ }
+    ensures { λ _. ⌜ now (out .exit) ≡ put (now (out .entry)) at (headerBytes k l) ⌝ }
+{
+    put_number(out, at, l);
+    put_pair(out, at + 4, k);
+}
+
+// ---- blocks
+
+fn put_cells(out: &mut [u8], at: usize, cells: &[u32])
+    requires { ⌜ at + 4 * length (now cells) ≤ length (now out) ⌝ }
+    ensures { λ _. ⌜ now (out .exit) ≡ put (now (out .entry)) at (cellsBytes (now (cells .entry))) ⌝ }
+{
+    let mut i: usize = 0;
+    while i < cells.len() {
+        put_number(out, at + 4 * i, cells[i]);
+        i += 1;
+    }
+}
+
+fn block_size(k: usize) -> usize
+    requires { ⌜ k ≤ 8388608 ⌝ }
+    ensures { λ r. ⌜ r ≡ blockSize k ⌝ }
+{
+    if k == 0 { 0 } else { 10 + 4 * k }
+}
+
+// The block of these cells, nothing for none.
+fn put_stretch(out: &mut [u8], at: usize, first: u32, cells: &[u32])
+    requires { ⌜ (length (now cells) ≤ 8388608) × (at + blockSize (length (now cells)) ≤ length (now out)) ⌝ }
+    ensures { λ _. ⌜ now (out .exit) ≡ put (now (out .entry)) at (stretchBytes first (now (cells .entry))) ⌝ }
+{
+    if cells.len() == 0 {
+        return;
+    }
+    put_header(out, at, 1, (4 + 4 * cells.len()) as u32);
+    put_number(out, at + 6, first);
+    put_cells(out, at + 10, cells);
+}
+
+// How many cells from there on are not zero, up to the first that is.
+fn stretch_length(store: &[u32], first: usize) -> usize
+    requires { ⌜ first ≤ length (now store) ⌝ }
+    ensures value { λ r. ⌜ r ≡ length (stretch (drop first (now (store .entry)))) ⌝ }
+    ensures bound { λ r. ⌜ first + r ≤ length (now (store .entry)) ⌝ }
+{
+    let mut end = first;
+    while end < store.len() {
+        if store[end] == 0 {
+            return end - first;
+        }
+        end += 1;
+    }
+    end - first
+}
+
+fn blocks_length(store: &[u32]) -> usize
+    requires { ⌜ length (now store) ≤ 8388608 ⌝ }
+    ensures value { λ r. ⌜ r ≡ length (blocksBytes (storeBlocks (now (store .entry)))) ⌝ }
+    ensures bound { λ r. ⌜ r ≤ 117440526 ⌝ }
+{
+    let mut total: usize = 0;
+    let mut i: usize = 0;
+    while i < store.len() {
+        if store[i] == 0 {
+            i += 1;
+        } else {
+            let k = stretch_length(store, i);
+            total += block_size(k);
+            i += k + 1;
+        }
+    }
+    total
+}
+
+// The blocks of the store; the answer is the place after them.
+fn put_blocks(out: &mut [u8], from: usize, store: &[u32]) -> usize
+    requires { ⌜ (length (now store) ≤ 8388608) × (from + length (blocksBytes (storeBlocks (now store))) ≤ length (now out)) ⌝ }
+    ensures place { λ r. ⌜ r ≡ from + length (blocksBytes (storeBlocks (now (store .entry)))) ⌝ }
+    ensures bytes { λ _. ⌜ now (out .exit) ≡ put (now (out .entry)) from (blocksBytes (storeBlocks (now (store .entry)))) ⌝ }
+{
+    let mut at = from;
+    let mut i: usize = 0;
+    while i < store.len() {
+        if store[i] == 0 {
+            i += 1;
+        } else {
+            let k = stretch_length(store, i);
+            let end = i + k;
+            put_stretch(out, at, i as u32, &store[i..end]);
+            at += block_size(k);
+            i += k + 1;
+        }
+    }
+    at
+}
+
+// ---- the control record
+
+fn flag_value(b: bool, v: u8) -> u8
+    ensures value { λ r. ⌜ r ≡ flag b v ⌝ }
+    ensures bound { λ r. ⌜ r ≤ v ⌝ }
+{
+    if b { v } else { 0 }
+}
+
+fn flags_byte(c: Control) -> u8
+    ensures { λ r. ⌜ r ≡ flagsByte c ⌝ }
+{
+    flag_value(c.monitor, 1) + flag_value(c.enabled, 2) + flag_value(c.reset, 4)
+}
+
+// PR, EX, flags, a zero byte.
+fn put_state(out: &mut [u8], at: usize, c: Control)
+    requires { ⌜ at + 4 ≤ length (now out) ⌝ }
+    ensures { λ _. ⌜ now (out .exit) ≡ put (now (out .entry)) at (stateBytes c) ⌝ }
+{
+    out[at] = low(c.pr);
+    out[at + 1] = low(c.ex);
+    out[at + 2] = flags_byte(c);
+    out[at + 3] = 0;
+}
+
+fn put_control(out: &mut [u8], at: usize, c: Control)
+    requires { ⌜ at + 26 ≤ length (now out) ⌝ }
+    ensures { λ _. ⌜ now (out .exit) ≡ put (now (out .entry)) at (recordBytes 2 (controlBytes c)) ⌝ }
+{
+    put_header(out, at, 2, 20);
+    put_number(out, at + 6, c.ic);
+    put_number(out, at + 10, c.ir);
+    put_number(out, at + 14, c.im);
+    put_number(out, at + 18, c.pending);
+    put_state(out, at + 22, c);
+}
+
+// ---- the remark
+
+fn put_text(out: &mut [u8], at: usize, text: &[u8])
+    requires { ⌜ at + length (now text) ≤ length (now out) ⌝ }
+    ensures { λ _. ⌜ now (out .exit) ≡ put (now (out .entry)) at (now (text .entry)) ⌝ }
+{
+    let mut i: usize = 0;
+    while i < text.len() {
+        out[at + i] = text[i];
+        i += 1;
+    }
+}
+
+fn remark_fits(given: bool, text: &[u8]) -> bool
+    ensures { λ r. ⌜ r ≡ remarkFits (remarkOf given (now (text .entry))) ⌝ }
+{
+    if given {
+        return text.len() <= 255;
+    }
+    true
+}
+
+fn remark_size(given: bool, text: &[u8]) -> usize
+    ensures { λ r. ⌜ r ≡ remarkSize (remarkOf given (now (text .entry))) ⌝ }
+{
+    if given {
+        return 6 + text.len();
+    }
+    0
+}
+
+fn put_remark(out: &mut [u8], given: bool, text: &[u8])
+    requires { ⌜ (remarkFits (remarkOf given (now text)) ≡ true) × (remarkSize (remarkOf given (now text)) ≤ length (now out)) ⌝ }
+    ensures { λ _. ⌜ now (out .exit) ≡ put (now (out .entry)) 0 (remarkBytes (remarkOf given (now (text .entry)))) ⌝ }
+{
+    if !given {
+        return;
+    }
+    put_header(out, 0, 4, text.len() as u32);
+    put_text(out, 6, text);
+}
+
+// ---- the tape
+
+fn tape_length(store: &[u32], c: Control, given: bool, text: &[u8]) -> usize
+    requires { ⌜ (length (now store) ≤ 8388608) × (remarkFits (remarkOf given (now text)) ≡ true) ⌝ }
+    ensures { λ r. ⌜ r ≡ length (tapeOf (now (store .entry)) c (remarkOf given (now (text .entry)))) ⌝ }
+{
+    remark_size(given, text) + blocks_length(store) + 32
+}
+
+fn put_tape(out: &mut [u8], store: &[u32], c: Control, given: bool, text: &[u8])
+    requires { ⌜ (length (now store) ≤ 8388608) × (remarkFits (remarkOf given (now text)) ≡ true) × (length (tapeOf (now store) c (remarkOf given (now text))) ≤ length (now out)) ⌝ }
+    ensures { λ _. ⌜ now (out .exit) ≡ put (now (out .entry)) 0 (tapeOf (now (store .entry)) c (remarkOf given (now (text .entry)))) ⌝ }
+{
+    put_remark(out, given, text);
+    let at = remark_size(given, text);
+    let end = put_blocks(out, at, store);
+    put_control(out, end, c);
+    put_header(out, end + 26, 3, 0);
+}
+
+fn refused(q: Refusal) -> Written
+    ensures { λ r. ⌜ r ≡ refusedWriting q ⌝ }
+{
+    Written {
+        length: 0,
+        verdict: Verdict::Rejected(q),
+    }
+}
+
+fn write_machine(store: &[u32], c: Control, given: bool, text: &[u8], out: &mut [u8]) -> Written
+    requires { ⌜ length (now store) ≤ 8388608 ⌝ }
+    ensures answer { λ r. ⌜ r ≡ writtenAs (now (store .entry)) c (remarkOf given (now (text .entry))) (now (out .entry)) .answer ⌝ }
+    ensures bytes { λ _. ⌜ now (out .exit) ≡ writtenAs (now (store .entry)) c (remarkOf given (now (text .entry))) (now (out .entry)) .bytes ⌝ }
+{
+    if !remark_fits(given, text) {
+        return refused(Refusal::RemarkLength);
+    }
+    let n = tape_length(store, c, given, text);
+    if n > MOST_BYTES {
+        return refused(Refusal::WrittenLength);
+    }
+    if n > out.len() {
+        return refused(Refusal::BufferLength);
+    }
+    put_tape(out, store, c, given, text);
+    Written {
+        length: n,
+        verdict: Verdict::Accepted,
+    }
+}
+
+// Writes the tape of a machine, with the remark `text` where one is given. On a refusal nothing changes.
+pub fn write(store: &[u32], control: Control, given: bool, text: &[u8], out: &mut [u8]) -> Written
+    ensures answer { λ r. ⌜ r ≡ writing (now (store .entry)) control (remarkOf given (now (text .entry))) (now (out .entry)) .answer ⌝ }
+    ensures bytes { λ _. ⌜ now (out .exit) ≡ writing (now (store .entry)) control (remarkOf given (now (text .entry))) (now (out .entry)) .bytes ⌝ }
+{
+    let v = acceptance::judge_machine(store, control);
+    match v {
+        Verdict::Accepted => write_machine(store, control, given, text, out),
+        Verdict::Rejected(r) => refused(r),
+    }
+}

@@ -1,0 +1,4 @@
+pub mod Stretches
+pub mod Fewest
+pub mod Tapes
+pub mod Claims
