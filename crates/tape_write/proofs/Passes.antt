@@ -1,7 +1,7 @@
 -- The two passes over the store: one stretch, and the zero that ends it, in each turn. Assumes nothing.
 use Prim.Native.Nat.{ℕ, zero, suc, _+_, _-_, _*_, _≤_, _<_}
 use mathlib.Core.Path.{_≡_, refl, sym, ap, _∙_}
-use mathlib.Core.Bool.{true, false}
+use mathlib.Core.Bool.{true, false, true≢false}
 use mathlib.Core.List.{List, [], _∷_, _++_}
 use native.Mathlib.Numerals.{add-one}
 use native.Mathlib.Omega.{arith}
@@ -12,7 +12,7 @@ use lib.ListN.{length, take, drop, getD, length-append, length-drop, drop-of-len
 use lib.Seq.{drop-cons, drop-drop, length-take-le}
 use Rattle.definition_tape.specs.Blocks.{Block, stretch, blocksFrom, storeBlocks}
 use Rattle.definition_tape.specs.Bytes.{recordBytes, blockBytes, blocksBytes}
-use Rattle.tape_write.specs.Steps.{put, blocksAfter, stretchBytes, blockSize}
+use Rattle.tape_write.specs.Steps.{put, blocksAfter, allZero, stretchBytes, blockSize}
 use Rattle.definition_tape.proofs.Bytes.{length-record, length-block}
 use Rattle.definition_tape.proofs.Stretches.{stretch-take, blocks-past}
 use Rattle.tape_write.proofs.Puts.{put-put, put-none}
@@ -74,6 +74,18 @@ module _ (s : List ℕ) (i k : ℕ) (e : k ≡ length (stretch (drop i s))) wher
 pub blocks-zero : (s : List ℕ) (i : ℕ) → i < length s → getD s i 0 ≡ 0 → blocksAfter s (i + 1) ≡ blocksAfter s i
 unfolding stretchBytes
 blocks-zero s i h e = sym (blocks-step s i 0 (sym (stretch-stops s i h e)))
+
+-- past several that are zero
+past-zeros : (k i : ℕ) (q : List ℕ) → allZero (take k q) ≡ true → blocksFrom false (i + k) (drop k q) ≡ blocksFrom false i q
+unfolding blocksFrom allZero
+past-zeros zero i q e = let n : i + 0 ≡ i = omega arith in rw n refl
+past-zeros (suc k) i [] e = refl
+past-zeros (suc k) i (zero ∷ q) e = let n : i + suc k ≡ i + 1 + k = omega arith in rw n (past-zeros k (i + 1) q e)
+past-zeros (suc k) i (suc x ∷ q) e = absurd (true≢false (sym (rw (eqb·suc-zero x) at e)))
+
+pub blocks-zeros : (s : List ℕ) (i k : ℕ) → allZero (take k (drop i s)) ≡ true → blocksAfter s (i + k) ≡ blocksAfter s i
+unfolding blocksAfter
+blocks-zeros s i k e = ap blocksBytes (rw (← (drop-drop k i s)) (past-zeros k i (drop i s) e))
 
 length-stretch : (i : ℕ) (cs : List ℕ) → length (stretchBytes i cs) ≡ blockSize (length cs)
 unfolding stretchBytes

@@ -1,7 +1,7 @@
 -- For the functions inside the crate; no public contract rests on it. Bytes put into a buffer, and the blocks from a cell on.
 -- Assumes nothing.
 use Prim.Native.Nat.{ℕ, _+_, _*_, _%_}
-use mathlib.Core.Bool.{false, cond}
+use mathlib.Core.Bool.{Bool, true, false, cond}
 use mathlib.Core.List.{List, [], _∷_, _++_}
 use mathlib.Core.Option.{Option}
 use lib.ListN.{length, take, drop}
@@ -18,6 +18,11 @@ put out at bs = take at out ++ (bs ++ drop (at + length bs) out)
 -- the blocks of the store s from its cell i on
 unfoldable pub blocksAfter : List ℕ → ℕ → List ℕ
 blocksAfter s i = blocksBytes (blocksFrom false i (drop i s))
+
+-- no cell but zeros
+unfoldable pub allZero : List ℕ → Bool
+allZero [] = true
+allZero (x ∷ s) = cond (eqb x 0) (allZero s) false
 
 -- the block of the cells cs, the first of which is the cell i; nothing for no cells
 unfoldable pub stretchBytes : ℕ → List ℕ → List ℕ

@@ -2,17 +2,20 @@
 // writes them. A function that writes takes the buffer and a place in it, and leaves all other bytes as they are.
 ghost use mathlib.Core.Path.{_≡_};
 ghost use mathlib.Core.Bool.{true};
-ghost use Prim.Native.Nat.{_+_, _*_, _%_, _≤_};
-ghost use lib.ListN.{length, drop};
+ghost use Prim.Native.Nat.{_+_, _*_, _%_, _≤_, _<_};
+ghost use lib.ListN.{length, getD, drop};
 ghost use Rattle.definition_tape.specs.Blocks.{stretch, storeBlocks};
 ghost use Rattle.definition_tape.specs.Bytes.{bytes2, bytes4, headerBytes, recordBytes, cellsBytes, blocksBytes, flag, flagsByte, controlBytes, remarkBytes, remarkSize, tapeOf};
 ghost use Rattle.definition_tape.specs.Writing.{remarkOf, remarkFits, refusedWriting, writing};
-ghost use Rattle.tape_write.specs.Steps.{put, stretchBytes, blockSize, stateBytes, writtenAs};
+ghost use Rattle.tape_write.specs.Steps.{put, blocksAfter, allZero, stretchBytes, blockSize, stateBytes, writtenAs};
 use definition_tape::MOST_BYTES;
 use definition_tape::Written;
 use machine::Control;
 use machine::Refusal;
 use machine::Verdict;
+
+// The cells that are tested for zero together: a part of the store that begins at a multiple of this.
+const PART: usize = 256;
 
 // ---- numbers, little-endian
 
@@ -98,6 +101,38 @@ fn stretch_length(store: &[u32], first: usize) -> usize
     end - first
 }
 
+// Every cell is looked at, so that the compiler can test several at once.
+fn all_zero(cells: &[u32]) -> bool
+    ensures { λ r. ⌜ r ≡ allZero (now (cells .entry)) ⌝ }
+{
+    let mut zero = true;
+    for i in 0..cells.len() {
+        if cells[i] != 0 {
+            zero = false;
+        }
+    }
+    zero
+}
+
+// How many cells to pass over from a zero cell on: all of a part that begins there where they are zero, else that cell.
+fn zero_cells(store: &[u32], i: usize) -> usize
+    requires { ⌜ (i < length (now store)) × (getD (now store) i 0 ≡ 0) ⌝ }
+    ensures blocks { λ r. ⌜ blocksAfter (now (store .entry)) (i + r) ≡ blocksAfter (now (store .entry)) i ⌝ }
+    ensures bound { λ r. ⌜ (0 < r) × (i + r ≤ length (now (store .entry))) ⌝ }
+{
+    if i % PART != 0 {
+        return 1;
+    }
+    if store.len() - i < PART {
+        return 1;
+    }
+    if all_zero(&store[i..i + PART]) {
+        PART
+    } else {
+        1
+    }
+}
+
 fn blocks_length(store: &[u32]) -> usize
     requires { ⌜ length (now store) ≤ 8388608 ⌝ }
     ensures value { λ r. ⌜ r ≡ length (blocksBytes (storeBlocks (now (store .entry)))) ⌝ }
@@ -107,7 +142,7 @@ fn blocks_length(store: &[u32]) -> usize
     let mut i: usize = 0;
     while i < store.len() {
         if store[i] == 0 {
-            i += 1;
+            i += zero_cells(store, i);
         } else {
             let k = stretch_length(store, i);
             total += block_size(k);
@@ -127,7 +162,7 @@ fn put_blocks(out: &mut [u8], from: usize, store: &[u32]) -> usize
     let mut i: usize = 0;
     while i < store.len() {
         if store[i] == 0 {
-            i += 1;
+            i += zero_cells(store, i);
         } else {
             let k = stretch_length(store, i);
             let end = i + k;

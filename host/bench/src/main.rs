@@ -3,7 +3,7 @@
 //! A program is a tape whose loop does not end; it is run with the largest
 //! budget again and again. An autoload is the two keys and a run until the
 //! reader's characters end. Each run is lent the same characters and typing
-//! space. In the row of the writer a call counts as one instruction. The two
+//! space. In a row of the writer a call counts as one instruction. The two
 //! machines take their slices of time by turns; the pair of slices with the
 //! median ratio is shown. SECONDS is the time for each row, 4 where it is not
 //! given.
@@ -138,7 +138,7 @@ fn table(seconds: f64) {
     } else {
         "emulation"
     };
-    println!("instructions per second, in millions (written tapes in the last row); ratio of the two speeds");
+    println!("instructions per second, in millions (written tapes in the rows of write); ratio of the two speeds");
     println!(
         "{:28} {tested:>10} {:>10} {:>7}",
         "program", "emulation", "ratio"

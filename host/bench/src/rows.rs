@@ -59,7 +59,14 @@ const fn calls(name: &'static str, cells: usize) -> Row {
     }
 }
 
-pub const ROWS: [Row; 12] = [
+const fn writes(name: &'static str, cells: usize) -> Row {
+    Row {
+        writes: true,
+        ..calls(name, cells)
+    }
+}
+
+pub const ROWS: [Row; 14] = [
     program("register loop", tape!("registers")),
     program("byte copy loop", tape!("bytes")),
     program("multiply loop (WM)", tape!("multiply")),
@@ -80,10 +87,9 @@ pub const ROWS: [Row; 12] = [
     },
     calls("budget 1, 4,096 cells", 4096),
     calls("budget 1, 1,048,576 cells", 1_048_576),
-    Row {
-        writes: true,
-        ..calls("write, 1,048,576 cells", 1_048_576)
-    },
+    calls("budget 1, 8,388,608 cells", 8_388_608),
+    writes("write, 1,048,576 cells", 1_048_576),
+    writes("write, 8,388,608 cells", 8_388_608),
 ];
 
 impl Reader {

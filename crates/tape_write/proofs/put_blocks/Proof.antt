@@ -6,7 +6,7 @@ use lib.ListN.{length}
 use Rattle.definition_tape.specs.Blocks.{storeBlocks}
 use Rattle.definition_tape.specs.Bytes.{blocksBytes}
 use Rattle.tape_write.specs.Steps.{put, blocksAfter}
-use Rattle.tape_write.proofs.Passes.{blocks-all, blocks-zero, size-step, put-step, part-fits, length-done, put-done}
+use Rattle.tape_write.proofs.Passes.{blocks-all, size-step, put-step, part-fits, length-done, put-done}
 use borrow.Author.Needs.{needs}
 use Rattle.tape_write.proofs.put_blocks.Statement.{statement}
 use Rattle.tape_write.proofs.put_blocks.Tie as tie
@@ -26,17 +26,20 @@ mul-if1 c = search needs
 shared-slice-read-if1 : tie.Need-shared-slice-read-if1 Inv-loop μ-loop
 shared-slice-read-if1 c = search needs
 
+zero-cells-requires : tie.Need-zero-cells-requires Inv-loop μ-loop
+zero-cells-requires c κs = search needs
+
 add-i : tie.Need-add-i Inv-loop μ-loop
-add-i c = search needs
+add-i c = omega (arith, c .zero-cells .ensures)
 
 loop-less : tie.Need-loop-less Inv-loop μ-loop
-loop-less c = omega arith
+loop-less c = omega (arith, c .zero-cells .ensures)
 
 loop-again : tie.Need-loop-again Inv-loop μ-loop
 loop-again c =
-    let l = c .before .before .before .loop in
-    let z = blocks-zero (now (c .before .before .before .before .before .before .args .store)) (l .i) (c .before .before .loop-test .taken) (c .if1 .taken) in
-    (omega arith, l .inv .1, rw z (l .inv .2), rw z (l .inv .3))
+    let l = c .before .before .before .before .loop in
+    let z = c .zero-cells .ensures in
+    (omega arith, l .inv .1, rw (z .0) (l .inv .2), rw (z .0) (l .inv .3))
 
 stretch-length-requires : tie.Need-stretch-length-requires Inv-loop μ-loop
 stretch-length-requires c κs = omega arith
@@ -117,6 +120,7 @@ put-blocks-spec =
     loop-holds
     mul-if1
     shared-slice-read-if1
+    zero-cells-requires
     add-i
     loop-less
     loop-again
