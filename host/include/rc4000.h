@@ -17,8 +17,8 @@
  * characters behind those taken and the bytes behind those typed.
  *
  * A call that is refused gives the refusal's number, 1 to 16, and leaves the
- * store and the buffers as they were; control record and device buffer
- * registers come back as given, and every count is zero.
+ * store and the buffers as they were; where the result has a control record or
+ * device buffer registers, they come back as given; every count is zero.
  *
  * What the caller has to see to, since C does not check it: store points to
  * `cells` cells, tape to `length` bytes, text to `text_length` bytes,
@@ -181,7 +181,7 @@ typedef struct {
 
 typedef struct {
     uint32_t refusal; /* 0: done, else a refusal */
-    size_t length;    /* bytes of the tape: they stand at the front of the buffer */
+    size_t length;    /* bytes of the tape, at the front of the buffer; 0 if refused */
 } rc4000_written;
 
 /* The most bytes of a tape: a buffer of so many has room for every tape. */
@@ -234,8 +234,8 @@ rc4000_text rc4000_remark(const uint8_t *tape, size_t length, size_t cells);
 /* Writes the tape of a machine into a buffer of `space` bytes, whose bytes
  * behind the tape are kept. `given` 0: no remark; else the remark is `text`, at
  * most 255 bytes, also where it is empty. Store and record are only read.
- * rc4000_load into as many cells of zero gives the same store and record; the
- * device buffer registers are not on a tape. */
+ * rc4000_load into as many cells of zero gives the same store and record, and
+ * rc4000_remark the same remark; the device buffer registers are not on a tape. */
 rc4000_written rc4000_write(const uint32_t *store, size_t cells, rc4000_control control,
                             uint8_t given, const uint8_t *text, size_t text_length, uint8_t *tape,
                             size_t space);

@@ -31,11 +31,12 @@ use Rattle.cycle_promises.proofs.Claims as keys
 use Rattle.definition_tape.specs.Load.{judgeThen, judgeLoad, loadedBy, loading}
 use Rattle.definition_tape.specs.Bytes.{tapeOf}
 use Rattle.definition_tape.specs.Writing.{remarkOf, remarkFits, judgeSize, judgeParts, judgeWriting, Writing, writingBy, writing}
+use Rattle.tape_promises.proofs.Numbers.{positive}
 use Rattle.writer_promises.specs.Claims.{tapeSize}
-use Rattle.writer_promises.proofs.Claims.{tape-length}
+use Rattle.writer_promises.proofs.Claims.{written-tape-length}
 use Rattle.capi_records.specs.declared.ControlRecord.{ControlRecord}
 use Rattle.capi_records.specs.Results.{flagsFit, controlIn, judgeFlags, runReturned, resultBy, autoloadedBy, runBy, keyBy, autoloadBy, loadBy, writeResultBy, writeBy, runCall, resetCall, startCall, autoloadCall, loadCall, writeCall}
-use Rattle.capi_promises.specs.Claims.{numberOf, fitsLent, RunNumbers, AutoloadCallNumbers, WriteNumbers, RunAsGiven, StateAsGiven, AutoloadAsGiven, WriteAsGiven, RefusedAsGiven}
+use Rattle.capi_promises.specs.Claims.{numberOf, fitsLent, RunNumbers, AutoloadCallNumbers, WriteNumbers, WriteAccepted, RunAsGiven, StateAsGiven, AutoloadAsGiven, WriteAsGiven, RefusedAsGiven}
 
 -- ---- the numbers of a run
 
@@ -124,7 +125,7 @@ writing-number : (s : List ℕ) (c : Control) (m : Option (List ℕ)) (n : ℕ)
     ≡ cond (sizeFits (length s)) (cond (cellsFit s) (cond (controlFits c) (cond (remarkFits m) (cond (leb (tapeSize s m) 65536) (cond (leb (tapeSize s m) n) 0 16) 15) 14) 3) 2) 1
 unfolding judgeWriting judgeMachine judgeParts judgeSize
 writing-number s c m n =
-    rw (tape-length s c m) (tests-number (sizeFits (length s)) (cellsFit s) (controlFits c) (remarkFits m) (leb (tapeSize s m) 65536) (leb (tapeSize s m) n))
+    rw (written-tape-length s c m) (tests-number (sizeFits (length s)) (cellsFit s) (controlFits c) (remarkFits m) (leb (tapeSize s m) 65536) (leb (tapeSize s m) n))
 
 write-flags : (f : Bool) (s : List ℕ) (r : ControlRecord) (m : Option (List ℕ)) (o : List ℕ)
     → writeBy (cond f Accepted (judgeThen (judgeStore s) (Rejected ControlField))) o (writing s (controlIn r) m o) .result .refusal
@@ -137,6 +138,18 @@ write-flags false s r m o = bad-write (sizeFits (length s)) (cellsFit s) o (writ
 pub write-numbers : WriteNumbers
 unfolding writeCall judgeFlags
 write-numbers s r g m o = write-flags (flagsFit r) s r (remarkOf (not (eqb g 0)) m) o
+
+accepted-by : (v w : Verdict) (t o : List ℕ) → let x = writeBy v o (writingBy w t o) in
+    x .result .refusal ≡ 0 → (x .result .length ≡ writingBy w t o .answer .length) × (x .bytes ≡ writingBy w t o .bytes)
+accepted-by (Rejected q) w t o = λ e. let p = positive q in absurd (omega (arith, e))
+accepted-by Accepted (Rejected q) t o = λ e. let p = positive q in absurd (omega (arith, e))
+accepted-by Accepted Accepted t o = λ e. (refl, refl)
+
+pub write-accepted : WriteAccepted
+unfolding writeCall writing
+write-accepted s r g m o =
+    let given = remarkOf (not (eqb g 0)) m in
+    accepted-by (judgeFlags s r) (judgeWriting s (controlIn r) given (length o)) (tapeOf s (controlIn r) given) o
 
 -- ---- a refusal changes nothing
 

@@ -8,7 +8,7 @@ use lib.Dec.{eqb, ltb, leb}
 use lib.ListN.{length}
 use Rattle.machine.specs.declared.Devices.{Devices}
 use Rattle.acceptance.specs.Accept.{sizeFits, cellsFit, controlFits, devicesFit}
-use Rattle.definition_tape.specs.Writing.{remarkOf, remarkFits}
+use Rattle.definition_tape.specs.Writing.{remarkOf, remarkFits, writing}
 use Rattle.writer_promises.specs.Claims.{tapeSize}
 use Rattle.capi_records.specs.declared.ControlRecord.{ControlRecord}
 use Rattle.capi_records.specs.declared.CallResult.{CallResult}
@@ -65,6 +65,13 @@ dueOfWrite s r g m o =
 abbrev pub WriteNumbers : Type 0
 WriteNumbers = (s : List ℕ) (r : ControlRecord) (g : ℕ) (m o : List ℕ) → writeCall s r g m o .result .refusal ≡ dueOfWrite s r g m o
 
+-- `write-accepted`: one that is not refused hands back the length and the buffer of `writing`
+abbrev pub WriteAccepted : Type 0
+WriteAccepted =
+    (s : List ℕ) (r : ControlRecord) (g : ℕ) (m o : List ℕ) → writeCall s r g m o .result .refusal ≡ 0
+    → let w = writing s (controlIn r) (remarkOf (not (eqb g 0)) m) o in
+    (writeCall s r g m o .result .length ≡ w .answer .length) × (writeCall s r g m o .bytes ≡ w .bytes)
+
 -- a refused run: the control record byte for byte, every cell, the device buffer registers and every byte of the typing buffer as they came; counts,
 -- taken and typed zero
 abbrev pub RunAsGiven : List ℕ → ControlRecord → Devices → List ℕ → RunReturned → Type 0
@@ -81,7 +88,7 @@ StateAsGiven s r x = (x .result .refusal ≡ 0 → ⊥) → (x .result .control 
 abbrev pub AutoloadAsGiven : List ℕ → ControlRecord → Devices → Returned AutoloadResult → Type 0
 AutoloadAsGiven s r d x = (x .result .refusal ≡ 0 → ⊥) → (x .result .control ≡ r) × (x .cells ≡ s) × (x .result .devices ≡ d) × (x .result .taken ≡ 0)
 
--- a refused tape to be written: every byte of the buffer, and no length
+-- a machine that is refused a tape: the length is 0, and every byte of the buffer as it came
 abbrev pub WriteAsGiven : List ℕ → WriteReturned → Type 0
 WriteAsGiven o x = (x .result .refusal ≡ 0 → ⊥) → (x .result .length ≡ 0) × (x .bytes ≡ o)
 

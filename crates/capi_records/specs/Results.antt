@@ -140,7 +140,7 @@ abbrev pub autoloadedBy : Verdict → ControlRecord → Devices → Autoloaded �
 autoloadedBy (Rejected q) r d x = refusedAutoload q r d
 autoloadedBy Accepted r d x = record { control = recordOf (x .control); refusal = 0; devices = x .devices; taken = x .taken }
 
--- a refused machine, remark or buffer: no bytes
+-- a refused machine, remark or buffer: the length is 0
 abbrev pub refusedWrite : Refusal → WriteResult
 refusedWrite q = record { refusal = refusalNumber q; length = 0 }
 

@@ -1,4 +1,4 @@
--- Worked C calls, by computation: the flag bytes and their refusals.
+-- Worked C calls, by computation: the flag bytes and their refusals, written tapes.
 -- Assumes nothing.
 use Prim.Native.Nat.{ℕ}
 use mathlib.Core.Path.{_≡_, refl}
@@ -104,6 +104,17 @@ remark-by-2 :
     ≡ writeReturned (record { refusal = 0; length = 38 }) (0 ∷ 0 ∷ 0 ∷ 0 ∷ 4 ∷ 0 ∷ (scopeTape ++ (9 ∷ [])))
 unfolding writeCall judgeFlags flagsFit controlIn openedWriting
 remark-by-2 = refl
+
+-- a remark's text, a cell and each field of the record in its place
+written-whole :
+    writeCall (67305985 ∷ replicate 7 0) (bytes 0 1 0) 1 (65 ∷ 66 ∷ []) (replicate 55 9)
+    ≡ writeReturned (record { refusal = 0; length = 54 })
+    (2 ∷ 0 ∷ 0 ∷ 0 ∷ 4 ∷ 0 ∷ 65 ∷ 66
+    ∷ 8 ∷ 0 ∷ 0 ∷ 0 ∷ 1 ∷ 0 ∷ 0 ∷ 0 ∷ 0 ∷ 0 ∷ 1 ∷ 2 ∷ 3 ∷ 4
+    ∷ 20 ∷ 0 ∷ 0 ∷ 0 ∷ 2 ∷ 0 ∷ 14 ∷ 0 ∷ 0 ∷ 0 ∷ 3 ∷ 0 ∷ 0 ∷ 0 ∷ 5 ∷ 0 ∷ 0 ∷ 0 ∷ 7 ∷ 0 ∷ 0 ∷ 0 ∷ 129 ∷ 2 ∷ 2 ∷ 0
+    ∷ 0 ∷ 0 ∷ 0 ∷ 0 ∷ 3 ∷ 0 ∷ 9 ∷ [])
+unfolding writeCall judgeFlags flagsFit controlIn openedWriting
+written-whole = refl
 
 -- a flag byte of 2 is 3, before 14 and 16
 write-flags : writeCall (replicate 8 0) (bytes 2 0 0) 1 (replicate 256 0) (9 ∷ []) ≡ writeReturned (record { refusal = 3; length = 0 }) (9 ∷ [])

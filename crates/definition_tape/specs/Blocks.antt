@@ -1,4 +1,4 @@
--- The blocks of a store: its stretches of cells that are not zero, in rising order (document 02, E2).
+-- The blocks of a store: its longest stretches of cells that are not zero, in rising order (document 02, E2).
 -- A cell is zero where all its bits are: a key with no word is written.
 -- Assumes nothing.
 use Prim.Native.Nat.{ℕ, zero, suc, _+_}
@@ -15,8 +15,8 @@ stretch [] = []
 stretch (zero ∷ s) = []
 stretch (suc x ∷ s) = suc x ∷ stretch s
 
--- the blocks of the cells s, the first of which is the cell i; `inside`: the cell before is not zero, and its block holds those that follow it.
--- A block begins at a cell that is not zero after one that is, or at the start, and goes on to the next that is zero.
+-- the blocks that begin in the cells s, the first of which is the cell i. A block begins at a cell that is not zero, the store's first or after one
+-- that is zero, and ends before the next that is. `inside`: the cell before s is not zero, so that no block begins here.
 unfoldable pub blocksFrom : Bool → ℕ → List ℕ → List Block
 blocksFrom inside i [] = []
 blocksFrom inside i (zero ∷ s) = blocksFrom false (i + 1) s

@@ -1,4 +1,4 @@
--- The bytes of a machine's tape: the layout that the loader reads (Layout.antt), the other way round.
+-- The bytes of a machine's tape: what Layout.antt reads, written.
 -- Assumes nothing.
 use Prim.Native.Nat.{ℕ, _+_, _/_, _%_}
 use mathlib.Core.Bool.{Bool, true, false}

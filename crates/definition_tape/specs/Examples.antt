@@ -5,7 +5,7 @@ use mathlib.Core.Bool.{Bool, true, false}
 use mathlib.Core.Path.{_≡_, refl}
 use mathlib.Core.Option.{none, some}
 use mathlib.Core.List.{List, [], _∷_, _++_}
-use lib.ListN.{take, replicate}
+use lib.ListN.{take, drop, replicate}
 use Rattle.machine.specs.Answers.{verdictNumber}
 use Rattle.machine.specs.Records.{freshRecord}
 use Rattle.machine.specs.declared.Control.{Control}
@@ -120,6 +120,17 @@ pub written-block : tapeOf (replicate 6 0 ++ (5 ∷ 117440512 ∷ [])) freshReco
     ≡ 1 ∷ 0 ∷ 0 ∷ 0 ∷ 4 ∷ 0 ∷ 65 ∷ 12 ∷ 0 ∷ 0 ∷ 0 ∷ 1 ∷ 0 ∷ 6 ∷ 0 ∷ 0 ∷ 0 ∷ 5 ∷ 0 ∷ 0 ∷ 0 ∷ 0 ∷ 0 ∷ 0 ∷ 7 ∷ scopeTape
 unfolding openedWriting
 written-block = refl
+
+-- a remark of two bytes, two blocks in rising order, a control record with no two bytes of a number alike
+pub written-machine :
+    tapeOf (67305985 ∷ replicate 5 0 ++ (5 ∷ 117440512 ∷ []))
+    (record { ic = 197121; ir = 394500; im = 591879; pending = 789258; pr = 130; ex = 5; monitor = false; enabled = true; reset = false }) (some (65 ∷ 66 ∷ []))
+    ≡ 2 ∷ 0 ∷ 0 ∷ 0 ∷ 4 ∷ 0 ∷ 65 ∷ 66
+    ∷ 8 ∷ 0 ∷ 0 ∷ 0 ∷ 1 ∷ 0 ∷ 0 ∷ 0 ∷ 0 ∷ 0 ∷ 1 ∷ 2 ∷ 3 ∷ 4
+    ∷ 12 ∷ 0 ∷ 0 ∷ 0 ∷ 1 ∷ 0 ∷ 6 ∷ 0 ∷ 0 ∷ 0 ∷ 5 ∷ 0 ∷ 0 ∷ 0 ∷ 0 ∷ 0 ∷ 0 ∷ 7
+    ∷ drop 14 bytesTape
+unfolding openedWriting
+written-machine = refl
 
 -- an empty remark is written, no remark is not
 pub empty-remark : tapeOf (replicate 8 0) freshRecord (some []) ≡ 0 ∷ 0 ∷ 0 ∷ 0 ∷ 4 ∷ 0 ∷ scopeTape

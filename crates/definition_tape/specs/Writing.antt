@@ -18,7 +18,7 @@ use Rattle.definition_tape.specs.Judge.{mostBytes}
 use Rattle.definition_tape.specs.declared.Written.{Written}
 use Rattle.definition_tape.specs.Bytes.{tapeOf}
 
--- a flag and a text, as calls take and readers give them: no remark, or the text
+-- the remark that a flag and a text stand for: none where the flag is no, else the text
 abbrev pub remarkOf : Bool → List ℕ → Option (List ℕ)
 remarkOf true r = some r
 remarkOf false r = none
@@ -50,7 +50,7 @@ pub record Writing : Type 0 where
   pub bytes : List ℕ
   pub answer : Written
 
--- refused: no bytes
+-- refused: the length is 0
 abbrev pub refusedWriting : Refusal → Written
 refusedWriting q = record { length = 0; verdict = Rejected q }
 

@@ -210,7 +210,7 @@ told (Rejected BufferLength) = refl
 same-number : (v w : Verdict) → verdictNumber v ≡ verdictNumber w → v ≡ w
 same-number v w e = sym (told v) ∙ ap (λ (k : ℕ). getD verdicts k Accepted) e ∙ told w
 
-positive : (q : Refusal) → 0 < refusalNumber q
+pub positive : (q : Refusal) → 0 < refusalNumber q
 positive q = let o : refusalNumber q ≡ 0 → ⊥ = λ e. refused (same-number (Rejected q) Accepted e) in omega arith
 
 -- ---- record by record

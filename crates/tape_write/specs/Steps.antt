@@ -37,6 +37,6 @@ blockSize k = cond (eqb k 0) 0 (10 + 4 * k)
 unfoldable pub stateBytes : Control → List ℕ
 stateBytes c = c .pr % 256 ∷ c .ex % 256 ∷ flagsByte c ∷ 0 ∷ []
 
--- an accepted machine
+-- what is written of a machine that passed 1 to 3
 unfoldable pub writtenAs : List ℕ → Control → Option (List ℕ) → List ℕ → Writing
 writtenAs s c m out = writingBy (judgeParts s c m (length out)) (tapeOf s c m) out

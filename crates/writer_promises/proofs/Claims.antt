@@ -1,4 +1,4 @@
--- The claims of specs/Claims.antt. `rising-blocks` stands in Stretches, `fewest-blocks` in Fewest; the others here.
+-- The claims of specs/Claims.antt. `rising-blocks` stands in Stretches, `fewest-blocks` in Fewest, `tape-records` in Records; the others here.
 -- Assumes nothing.
 use Prim.Native.Nat.{ℕ, zero, suc, _+_, _*_}
 use mathlib.Core.Path.{_≡_, refl, sym, ap, _∙_}
@@ -26,9 +26,9 @@ use Rattle.definition_tape.proofs.Lengths.{length-tape}
 use Rattle.tape_promises.proofs.Claims.{accepted-tapes}
 use Rattle.tape_promises.proofs.Numbers.{Gives, gives-none, Decides, tested, not-both, above, size-decides, exactly}
 use Rattle.definition_tape.specs.Blocks.{stretch, blocksFrom, storeBlocks}
-use Rattle.definition_tape.specs.Bytes.{recordBytes, blockBytes, blocksBytes, tapeOf}
+use Rattle.definition_tape.specs.Bytes.{recordBytes, blockBytes, blocksBytes, remarkSize, tapeOf}
 use Rattle.definition_tape.specs.Writing.{remarkOf, remarkFits, Writable, judgeSize, judgeParts, judgeWriting, writing}
-use Rattle.writer_promises.specs.Claims.{occupied, ReadNumbers, ReadControl, TapeLength, GoodTape, RoundTrip, EqualTapes, WrittenTapes, TapeInBuffer, BufferAsGiven, tapeSize, LongRemark, WritingRefused, WritingNumbers}
+use Rattle.writer_promises.specs.Claims.{occupied, ReadNumbers, ReadControl, WrittenTapeLength, GoodTape, RoundTrip, EqualTapes, WrittenTapes, TapeInBuffer, BufferAsGiven, remarkLength, tapeSize, LongRemark, WritingRefused, WritingNumbers}
 use Rattle.definition_tape.proofs.Bytes.{four-bytes, control-back, length-record, length-block}
 use Rattle.writer_promises.proofs.Tapes.{tape-grammar, load-tape, tape-control, tape-remark}
 
@@ -57,9 +57,18 @@ length-blocks false i (suc x ∷ s) =
     let h = length-block (record { first = i; cells = suc x ∷ stretch s }) in
     omega arith
 
-pub tape-length : TapeLength
+remark-size : (m : Option (List ℕ)) → remarkSize m ≡ remarkLength m
+unfolding remarkSize
+remark-size none = refl
+remark-size (some r) = refl
+
+pub written-tape-length : WrittenTapeLength
 unfolding storeBlocks
-tape-length s c m = let e = length-blocks false 0 s in let f = length-tape s c m in omega arith
+written-tape-length s c m =
+    let e = length-blocks false 0 s in
+    let f = length-tape s c m in
+    let g = remark-size m in
+    omega arith
 
 -- ---- the judge
 
@@ -146,7 +155,7 @@ pub tape-in-buffer : TapeInBuffer
 unfolding writing
 tape-in-buffer s c m out e =
     let t = tapeOf s c m in
-    let l = tape-length s c m in
+    let l = written-tape-length s c m in
     let h = written-tapes s c m (length out) .0 e .1 in
     let f = length-append t (drop (length t) out) in
     let g = length-drop (length t) out in
@@ -166,7 +175,7 @@ remark-decides (some r) = above (length r) 255
 writing-gives : (s : List ℕ) (c : Control) (m : Option (List ℕ)) (n : ℕ) → Gives (verdictNumber (judgeWriting s c m n)) (WritingRefused s c m n)
 unfolding judgeWriting judgeMachine judgeParts judgeSize
 writing-gives s c m n =
-    let l = tape-length s c m in
+    let l = written-tape-length s c m in
     let F : Verdict → ℕ = λ v. verdictNumber (judgeThen v (judgeParts s c m n)) in
     tested F (sizeFits (length s)) _ StoreSize refl (omega arith) (size-decides (length s))
     (λ a. tested F (cellsFit s) _ CellValue refl (omega arith) (record { passes = not-both; fails = λ e. e })

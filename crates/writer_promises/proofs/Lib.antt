@@ -1,4 +1,5 @@
 pub mod Stretches
 pub mod Fewest
 pub mod Tapes
+pub mod Records
 pub mod Claims

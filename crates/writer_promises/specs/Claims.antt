@@ -2,22 +2,23 @@
 -- Assumes nothing.
 use Prim.Native.Nat.{ℕ, zero, suc, _+_, _*_, _≤_, _<_}
 use mathlib.Core.Path.{_≡_}
-use mathlib.Core.Bool.{true, false}
+use mathlib.Core.Bool.{true, false, cond}
 use mathlib.Core.Option.{Option, none, some}
-use mathlib.Core.List.{List, [], _∷_}
+use mathlib.Core.List.{List, [], _∷_, _++_, map}
 use mathlib.Core.Logic.{_⊎_}
 use lib.ListN.{length, getD, take, drop, replicate}
+use lib.Dec.{eqb}
 use Rattle.machine.specs.declared.Control.{Control}
 use Rattle.machine.specs.Answers.{refusalNumber}
 use Rattle.machine.specs.declared.Refusal.{Refusal}
 use Rattle.machine.specs.declared.Verdict.the-variants.{Accepted, Rejected}
-use Rattle.definition_tape.specs.Layout.{numberAt, controlOf}
+use Rattle.definition_tape.specs.Layout.{numberAt, kindOf, payloadOf, recordsOf, firstCell, blockCells, controlOf}
 use Rattle.definition_tape.specs.Judge.{judgeTape}
 use Rattle.definition_tape.specs.Load.{loading}
 use Rattle.definition_tape.specs.Remark.{remarkSpan, remarkText}
 use Rattle.acceptance.specs.Accept.{cellsFit, controlFits}
 use Rattle.definition_tape.specs.Blocks.{Block, storeBlocks}
-use Rattle.definition_tape.specs.Bytes.{bytes4, controlBytes, remarkSize, tapeOf}
+use Rattle.definition_tape.specs.Bytes.{bytes4, controlBytes, tapeOf}
 use Rattle.definition_tape.specs.Writing.{remarkOf, Writable, judgeWriting, writing}
 use Rattle.tape_promises.specs.Contents.{Names}
 use Rattle.tape_promises.specs.Numbers.{Test, passed, SizeRefused}
@@ -39,7 +40,7 @@ Named i (b ∷ bs) = Names b i ⊎ Named i bs
 unfoldable pub Covers : List ℕ → List Block → Type 0
 Covers s bs = (i : ℕ) → (0 < getD s i 0 → Named i bs) × (Named i bs → 0 < getD s i 0)
 
--- each block begins at the cell i or later, and after the one before it, with a cell between them
+-- each block has a cell or more and begins at the cell i or later; one cell or more stands between it and the next
 unfoldable pub Rising : ℕ → List Block → Type 0
 Rising i [] = Unit {0}
 Rising i (b ∷ bs) = (i ≤ b .first) × (0 < length (b .cells)) × Rising (b .first + length (b .cells) + 1) bs
@@ -48,6 +49,26 @@ Rising i (b ∷ bs) = (i ≤ b .first) × (0 < length (b .cells)) × Rising (b .
 unfoldable pub HoldsCells : List ℕ → List Block → Type 0
 HoldsCells s [] = Unit {0}
 HoldsCells s (b ∷ bs) = ((j : ℕ) → j < length (b .cells) → getD (b .cells) j 0 ≡ getD s (b .first + j) 0) × HoldsCells s bs
+
+-- ---- what a record holds, as the layout reads it
+
+pub data Content : Type 0 where
+  block : Block → Content
+  control : Control → Content
+  end : Content
+  remark : List ℕ → Content
+
+-- the record at the start of t, by its kind: the judge lets none but 1 to 4 pass
+unfoldable pub contentOf : List ℕ → Content
+contentOf t =
+    cond (eqb (kindOf t) 1) (block (record { first = firstCell (payloadOf t); cells = blockCells (payloadOf t) }))
+    (cond (eqb (kindOf t) 2) (control (controlOf (payloadOf t)))
+    (cond (eqb (kindOf t) 3) end (remark (payloadOf t))))
+
+-- no record for no remark
+abbrev pub remarkContents : Option (List ℕ) → List Content
+remarkContents none = []
+remarkContents (some r) = remark r ∷ []
 
 -- ---- the claims
 
@@ -59,12 +80,23 @@ ReadNumbers = (n : ℕ) → n < 4294967296 → numberAt (bytes4 n) 0 ≡ n
 abbrev pub ReadControl : Type 0
 ReadControl = (c : Control) → controlFits c ≡ true → controlOf (controlBytes c) ≡ c
 
+-- the tape's records: the remark first if given, then the blocks, then control and end
+abbrev pub TapeRecords : Type 0
+TapeRecords =
+    (s : List ℕ) (c : Control) (m : Option (List ℕ)) → Writable s c m
+    → map contentOf (recordsOf (tapeOf s c m)) ≡ remarkContents m ++ (map block (storeBlocks s) ++ (control c ∷ end ∷ []))
+
+-- the bytes of a remark: its record has a header of six
+abbrev pub remarkLength : Option (List ℕ) → ℕ
+remarkLength none = 0
+remarkLength (some r) = 6 + length r
+
 -- the bytes of the tape: the remark's, 10 for each block, 4 for each cell that is not zero, 26 for the control record, 6 for the end
 abbrev pub tapeSize : List ℕ → Option (List ℕ) → ℕ
-tapeSize s m = remarkSize m + (10 * length (storeBlocks s) + 4 * occupied s) + 26 + 6
+tapeSize s m = remarkLength m + (10 * length (storeBlocks s) + 4 * occupied s) + 26 + 6
 
-abbrev pub TapeLength : Type 0
-TapeLength = (s : List ℕ) (c : Control) (m : Option (List ℕ)) → length (tapeOf s c m) ≡ tapeSize s m
+abbrev pub WrittenTapeLength : Type 0
+WrittenTapeLength = (s : List ℕ) (c : Control) (m : Option (List ℕ)) → length (tapeOf s c m) ≡ tapeSize s m
 
 -- the judge accepts the tape for a store of that size
 abbrev pub GoodTape : Type 0
@@ -84,7 +116,7 @@ EqualTapes =
     → (tapeOf s₁ c₁ m₁ ≡ tapeOf s₂ c₂ m₂ → (s₁ ≡ s₂) × (c₁ ≡ c₂) × (m₁ ≡ m₂))
     × ((s₁ ≡ s₂) × (c₁ ≡ c₂) × (m₁ ≡ m₂) → tapeOf s₁ c₁ m₁ ≡ tapeOf s₂ c₂ m₂)
 
--- the blocks name every cell that is not zero and no other, and no list of blocks that does so is shorter
+-- the blocks name every cell that is not zero and no other, and every list of blocks that does so has at least as many
 abbrev pub FewestBlocks : Type 0
 FewestBlocks = (s : List ℕ) → Covers s (storeBlocks s) × ((bs : List Block) → Covers s bs → length (storeBlocks s) ≤ length bs)
 
@@ -106,7 +138,7 @@ TapeInBuffer =
     (w .answer ≡ record { length = tapeSize s m; verdict = Accepted }) × (length (w .bytes) ≡ length out)
     × (take (tapeSize s m) (w .bytes) ≡ tapeOf s c m) × (drop (tapeSize s m) (w .bytes) ≡ drop (tapeSize s m) out)
 
--- refused: no length, and every byte of the buffer is as it came
+-- refused: the length is 0, and every byte of the buffer is as it came
 abbrev pub BufferAsGiven : Type 0
 BufferAsGiven =
     (s : List ℕ) (c : Control) (m : Option (List ℕ)) (out : List ℕ) (q : Refusal) → judgeWriting s c m (length out) ≡ Rejected q

@@ -11,8 +11,10 @@
 //! FILE is written.
 
 use rc4000::{remark, Machine, Outcome, Refusal, LONGEST_TAPE};
+use std::ffi::{OsStr, OsString};
 use std::fs::File;
-use std::io::{Read, Write};
+use std::io::{Error, Read, Write};
+use std::path::Path;
 use std::process::ExitCode;
 
 const CELLS: usize = 4096;
@@ -28,6 +30,12 @@ fn wrong(text: String) -> Failure {
     Failure { status: 2, text }
 }
 
+/// A file that cannot be read or written.
+fn of_file(status: u8, file: &OsStr, error: &Error) -> Failure {
+    let text = format!("{}: {error}", Path::new(file).display());
+    Failure { status, text }
+}
+
 impl From<Refusal> for Failure {
     fn from(refusal: Refusal) -> Self {
         let text = refusal.to_string();
@@ -36,7 +44,7 @@ impl From<Refusal> for Failure {
 }
 
 /// The file's bytes, one over the longest tape at most.
-fn read(file: &str) -> std::io::Result<Vec<u8>> {
+fn read(file: &OsStr) -> std::io::Result<Vec<u8>> {
     let mut bytes = Vec::new();
     let most = LONGEST_TAPE as u64 + 1;
     File::open(file)?.take(most).read_to_end(&mut bytes)?;
@@ -59,27 +67,34 @@ fn snapshot(tape: &[u8], cycles: u16, text: Option<&[u8]>) -> Result<(String, Ve
     Ok((line, machine.write(text)?))
 }
 
-/// Writes the file that the arguments ask for; gives the line.
-pub fn answer(arguments: &[String]) -> Result<String, Failure> {
+/// The number of cycles that an argument asks for.
+fn cycles_of(argument: &OsStr) -> Result<u16, Failure> {
+    let number = argument.to_str().and_then(|digits| digits.parse().ok());
+    number.ok_or_else(|| {
+        wrong(format!(
+            "CYCLES is 0 to 65535, not {}",
+            argument.to_string_lossy()
+        ))
+    })
+}
+
+/// Writes the file that the arguments ask for; gives the line. A remark is the
+/// argument's bytes as they are.
+pub fn answer(arguments: &[OsString]) -> Result<String, Failure> {
     let (tape, cycles, file, text) = match arguments {
         [tape, cycles, file] => (tape, cycles, file, None),
-        [tape, cycles, file, text] => (tape, cycles, file, Some(text.as_bytes())),
+        [tape, cycles, file, text] => (tape, cycles, file, Some(text.as_encoded_bytes())),
         _ => return Err(wrong("snapshot TAPE CYCLES FILE [REMARK]".into())),
     };
-    let cycles = cycles
-        .parse()
-        .map_err(|_| wrong(format!("CYCLES is 0 to 65535, not {cycles}")))?;
-    let bytes = read(tape).map_err(|error| wrong(format!("{tape}: {error}")))?;
+    let cycles = cycles_of(cycles)?;
+    let bytes = read(tape).map_err(|error| of_file(2, tape, &error))?;
     let (line, written) = snapshot(&bytes, cycles, text)?;
-    std::fs::write(file, written).map_err(|error| Failure {
-        status: 1,
-        text: format!("{file}: {error}"),
-    })?;
+    std::fs::write(file, written).map_err(|error| of_file(1, file, &error))?;
     Ok(line)
 }
 
 fn main() -> ExitCode {
-    let arguments: Vec<String> = std::env::args().skip(1).collect();
+    let arguments: Vec<OsString> = std::env::args_os().skip(1).collect();
     match answer(&arguments) {
         Ok(line) => match writeln!(std::io::stdout(), "{line}") {
             Ok(()) => ExitCode::SUCCESS,

@@ -6,6 +6,8 @@ mod snapshot;
 
 use rc4000::{remark, Machine};
 use snapshot::{answer, Failure};
+use std::ffi::OsString;
+use std::os::unix::ffi::OsStringExt;
 use std::path::{Path, PathBuf};
 
 /// A file for a test of this name.
@@ -19,12 +21,10 @@ fn example(name: &str) -> PathBuf {
         .join(name)
 }
 
-fn arguments(tape: &Path, cycles: &str, file: &Path, text: Option<&str>) -> Vec<String> {
-    [tape.to_str(), Some(cycles), file.to_str(), text]
-        .into_iter()
-        .flatten()
-        .map(String::from)
-        .collect()
+fn arguments(tape: &Path, cycles: &str, file: &Path, text: Option<&str>) -> Vec<OsString> {
+    let mut words = vec![tape.into(), cycles.into(), file.into()];
+    words.extend(text.map(OsString::from));
+    words
 }
 
 /// The machine of a tape after so many cycles.
@@ -78,8 +78,19 @@ fn the_remark_is_the_tapes_or_the_one_given() {
     assert_eq!(remark(&std::fs::read(&away).unwrap(), 4096), Ok(None));
 }
 
+/// Bytes that are no text in UTF-8 are a remark too.
+#[test]
+fn a_remark_is_bytes() {
+    let (tape, away) = (example("count.tape"), file("bytes"));
+    let mut words = arguments(&tape, "7", &away, None);
+    words.push(OsString::from_vec(vec![b'r', 0xf8, b'd']));
+    answer(&words).unwrap();
+    let written = std::fs::read(&away).unwrap();
+    assert_eq!(remark(&written, 4096), Ok(Some(&b"r\xf8d"[..])));
+}
+
 /// No snapshot, for this reason, and no file.
-fn fails(status: u8, text: &str, arguments: &[String]) {
+fn fails(status: u8, text: &str, arguments: &[OsString]) {
     let expected = Failure {
         status,
         text: text.into(),
