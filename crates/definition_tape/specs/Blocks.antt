@@ -16,7 +16,7 @@ stretch (zero ∷ s) = []
 stretch (suc x ∷ s) = suc x ∷ stretch s
 
 -- the blocks that begin in the cells s, the first of which is the cell i. A block begins at a cell that is not zero, the store's first or after one
--- that is zero, and ends before the next that is. `inside`: the cell before s is not zero, so that no block begins here.
+-- that is zero, and ends before the next that is. `inside`: the cell before s is not zero, so none begins at the first of s.
 unfoldable pub blocksFrom : Bool → ℕ → List ℕ → List Block
 blocksFrom inside i [] = []
 blocksFrom inside i (zero ∷ s) = blocksFrom false (i + 1) s

@@ -1,3 +1,4 @@
+-- Made by tools/prove.py; not to be edited.
 use borrow.Author.Tests.{eq-eqb, ne-eqb}
 use borrow.Author.Needs.{needs}
 use Rattle.tape_write.proofs.block_size.Statement.{statement}

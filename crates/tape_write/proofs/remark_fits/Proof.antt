@@ -1,3 +1,4 @@
+-- Made by tools/prove.py; not to be edited.
 use borrow.Author.Needs.{needs}
 use Rattle.definition_tape.specs.Writing.{remarkFits}
 use Rattle.tape_write.proofs.remark_fits.Statement.{statement}

@@ -1,3 +1,4 @@
+-- Made by tools/prove.py; not to be edited.
 use Rattle.definition_tape.specs.Bytes.{remarkSize}
 use borrow.Author.Needs.{needs}
 use Rattle.tape_write.proofs.remark_size.Statement.{statement}
