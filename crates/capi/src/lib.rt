@@ -1,4 +1,4 @@
-// The C calls (host/include/rc4000.h): the public calls, with the records of `capi_records` in and out. Flag bytes are tested first, save by a load.
+// The C calls (host/include/rc4000.h): the public calls, with the records of `capi_records` in and out. The control record's flag bytes are tested first, save by a load.
 ghost use mathlib.Core.Path.{_≡_};
 ghost use Rattle.definition_tape.specs.Remark.{remarkSpan};
 ghost use Rattle.capi_records.specs.Results.{returned, runReturned, runCall, resetCall, startCall, autoloadCall, loadCall, textOf, writeReturned, writeCall};

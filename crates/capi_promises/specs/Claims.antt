@@ -61,11 +61,11 @@ dueOfWrite s r g m o =
     (cond (leb (tapeSize s given) 65536)
     (cond (leb (tapeSize s given) (length o)) 0 16) 15) 14) 3) 3) 2) 1
 
--- `write-numbers`: a tape is refused exactly under these conditions
+-- `write-numbers`: the writing of a tape is refused exactly under these conditions
 abbrev pub WriteNumbers : Type 0
 WriteNumbers = (s : List ℕ) (r : ControlRecord) (g : ℕ) (m o : List ℕ) → writeCall s r g m o .result .refusal ≡ dueOfWrite s r g m o
 
--- `write-accepted`: one that is not refused hands back the length and the buffer of `writing`
+-- `write-accepted`: a call that is not refused hands back the length and the buffer of `writing`
 abbrev pub WriteAccepted : Type 0
 WriteAccepted =
     (s : List ℕ) (r : ControlRecord) (g : ℕ) (m o : List ℕ) → writeCall s r g m o .result .refusal ≡ 0

@@ -1,4 +1,4 @@
-// The records of the C calls (host/include/rc4000.h). Enums do not cross: an outcome is two numbers, a verdict is one. A flag that comes in is a byte, which is tested; `found` only goes out.
+// The records of the C calls (host/include/rc4000.h). Enums do not cross: an outcome is two numbers, a verdict is one. A flag of the control record comes in as a byte, which is tested; `found` only goes out.
 ghost use mathlib.Core.Path.{_≡_};
 ghost use Rattle.capi_records.specs.Results.{flagByte, flagsFit, controlIn, recordOf, judgeFlags, outcomeCode, outcomeNumber, resultBy, refusedRun, stateBy, refusedState, autoloadedBy, refusedAutoload, refusedWrite, writeResultBy};
 use definition_tape::Written;

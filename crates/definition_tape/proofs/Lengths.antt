@@ -1,24 +1,18 @@
 -- The length of a machine's tape. Assumes nothing.
 use Prim.Native.Nat.{ℕ, _+_}
-use mathlib.Core.Path.{_≡_, refl}
-use mathlib.Core.Option.{Option, none, some}
+use mathlib.Core.Path.{_≡_}
+use mathlib.Core.Option.{Option}
 use mathlib.Core.List.{List, []}
 use native.Mathlib.Omega.{arith}
 use lib.ListN.{length, length-append}
 use Rattle.machine.specs.declared.Control.{Control}
 use Rattle.definition_tape.specs.Blocks.{storeBlocks}
-use Rattle.definition_tape.specs.Bytes.{blocksBytes, controlBytes, remarkBytes, remarkSize, tapeOf}
+use Rattle.definition_tape.specs.Bytes.{blocksBytes, controlBytes, remarkRecord, tapeOf}
 use Rattle.definition_tape.proofs.Bytes.{length-record, length-control}
 
-pub length-remark : (m : Option (List ℕ)) → length (remarkBytes m) ≡ remarkSize m
-unfolding remarkBytes remarkSize
-length-remark none = refl
-length-remark (some r) = length-record 4 r
-
-pub length-tape : (s : List ℕ) (c : Control) (m : Option (List ℕ)) → length (tapeOf s c m) ≡ remarkSize m + length (blocksBytes (storeBlocks s)) + 32
+pub length-tape : (s : List ℕ) (c : Control) (m : Option (List ℕ)) → length (tapeOf s c m) ≡ length (remarkRecord m) + length (blocksBytes (storeBlocks s)) + 32
 unfolding tapeOf
 length-tape s c m =
-    let r = length-remark m in
     let k = length-record 2 (controlBytes c) in
     let n = length-control c in
     let e = length-record 3 [] in

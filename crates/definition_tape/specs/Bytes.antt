@@ -42,20 +42,18 @@ flag false v = 0
 abbrev pub flagsByte : Control → ℕ
 flagsByte c = flag (c .monitor) 1 + flag (c .enabled) 2 + flag (c .reset) 4
 
+-- PR, EX, flags, the zero byte
+abbrev pub stateBytes : Control → List ℕ
+stateBytes c = c .pr % 256 ∷ c .ex % 256 ∷ flagsByte c ∷ 0 ∷ []
+
 unfoldable pub controlBytes : Control → List ℕ
-controlBytes c =
-    bytes4 (c .ic) ++ (bytes4 (c .ir) ++ (bytes4 (c .im) ++ (bytes4 (c .pending) ++ (c .pr % 256 ∷ c .ex % 256 ∷ flagsByte c ∷ 0 ∷ []))))
+controlBytes c = bytes4 (c .ic) ++ (bytes4 (c .ir) ++ (bytes4 (c .im) ++ (bytes4 (c .pending) ++ stateBytes c)))
 
--- ---- kind 4, remark: none, or its text, which may be empty
-unfoldable pub remarkBytes : Option (List ℕ) → List ℕ
-remarkBytes none = []
-remarkBytes (some r) = recordBytes 4 r
-
--- the bytes that a remark takes
-unfoldable pub remarkSize : Option (List ℕ) → ℕ
-remarkSize none = 0
-remarkSize (some r) = 6 + length r
+-- ---- kind 4, remark: its text, which may be empty; no record for none
+unfoldable pub remarkRecord : Option (List ℕ) → List ℕ
+remarkRecord none = []
+remarkRecord (some r) = recordBytes 4 r
 
 -- ---- the tape of the machine with the cells s and the control record c: remark, blocks, control, end (kind 3)
 unfoldable pub tapeOf : List ℕ → Control → Option (List ℕ) → List ℕ
-tapeOf s c m = remarkBytes m ++ (blocksBytes (storeBlocks s) ++ (recordBytes 2 (controlBytes c) ++ recordBytes 3 []))
+tapeOf s c m = remarkRecord m ++ (blocksBytes (storeBlocks s) ++ (recordBytes 2 (controlBytes c) ++ recordBytes 3 []))

@@ -16,7 +16,7 @@ use Rattle.definition_tape.specs.Layout.{lengthOf, kindOf, payloadOf, re
 use Rattle.definition_tape.specs.Judge.{kindKnown, inOrder, lengthFits, judgeBlock, controlGood, judgeControl, judgePayload, judgeRecord, judgeRecords, judgeTape}
 use Rattle.definition_tape.specs.Load.{pasted, storedBlock, loadRecord, loadRecords, loadedControl, judgeLoad, loading}
 use Rattle.definition_tape.specs.Blocks.{stretch, blocksFrom, storeBlocks}
-use Rattle.definition_tape.specs.Bytes.{headerBytes, recordBytes, cellsBytes, blockBytes, blocksBytes, controlBytes, remarkBytes, tapeOf}
+use Rattle.definition_tape.specs.Bytes.{headerBytes, recordBytes, cellsBytes, blockBytes, blocksBytes, controlBytes, remarkRecord, tapeOf}
 use Rattle.definition_tape.specs.Writing.{remarkFits, judgeSize, judgeParts, judgeWriting, writingBy, writing}
 use Rattle.definition_tape.specs.Remark.{judgeReading, noSpan, remarkSpan, placeFrom}
 
@@ -107,8 +107,13 @@ second-control = refl
 
 -- opens what a tape is written by
 unfoldable pub openedWriting : ℕ
-unfolding stretch blocksFrom storeBlocks headerBytes recordBytes cellsBytes blockBytes blocksBytes controlBytes remarkBytes tapeOf sizeFits cellsFit stateFits controlFits judgeMachine remarkFits judgeSize judgeParts judgeWriting writing
+unfolding stretch blocksFrom storeBlocks headerBytes recordBytes cellsBytes blockBytes blocksBytes controlBytes remarkRecord tapeOf sizeFits cellsFit stateFits controlFits judgeMachine remarkFits judgeSize judgeParts judgeWriting writing
 openedWriting = 0
+
+-- lengths and first cells in four bytes, kinds in two
+pub numbers-in-bytes : (headerBytes 513 67305985 ≡ 1 ∷ 2 ∷ 3 ∷ 4 ∷ 1 ∷ 2 ∷ []) × (blockBytes (record { first = 67305985; cells = [] }) ≡ 1 ∷ 2 ∷ 3 ∷ 4 ∷ [])
+unfolding openedWriting
+numbers-in-bytes = (refl, refl)
 
 -- document 01's tape is the tape of a fresh machine
 pub fresh-tape : tapeOf (replicate 8 0) freshRecord none ≡ scopeTape

@@ -32,7 +32,7 @@ remarkFits (some r) = leb (length r) 255
 pub record Writable (s : List ℕ) (c : Control) (m : Option (List ℕ)) : Type 0 where
   pub machine : judgeMachine s c ≡ Accepted
   pub remark : remarkFits m ≡ true
-  pub size : length (tapeOf s c m) ≤ 65536
+  pub size : length (tapeOf s c m) ≤ mostBytes
 
 -- 15: a tape over 65,536 bytes; 16: a buffer of n bytes that is shorter than the tape of l bytes
 unfoldable pub judgeSize : ℕ → ℕ → Verdict

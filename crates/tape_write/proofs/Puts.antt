@@ -7,9 +7,9 @@ use native.Mathlib.Omega.{arith}
 use lib.ListN.{length, take, drop, getD, set, length-append, length-take, length-drop, take-append-drop}
 use lib.Seq.{take-at, drop-at, drop-drop, length-take-le, set-split, sets-eq, take-suc, take-length}
 use Rattle.machine.specs.declared.Control.{Control}
-use Rattle.definition_tape.specs.Bytes.{bytes2, bytes4, headerBytes, recordBytes, cellsBytes, blockBytes, controlBytes}
+use Rattle.definition_tape.specs.Bytes.{bytes2, bytes4, headerBytes, recordBytes, cellsBytes, blockBytes, stateBytes, controlBytes}
 use Rattle.definition_tape.specs.Blocks.{Block}
-use Rattle.tape_write.specs.Steps.{put, stretchBytes, stateBytes}
+use Rattle.tape_write.specs.Steps.{put, stretchBytes}
 use Rattle.definition_tape.proofs.Bytes.{length-cells-bytes, length-block}
 
 -- ---- two puts side by side are one
@@ -74,7 +74,7 @@ header-put o₀ o₁ o₂ at k l h e f = put-then o₀ o₁ o₂ at (at + 4) (by
 pub control-put : (o₀ o₁ o₂ o₃ o₄ o₅ o₆ : List ℕ) (at : ℕ) (c : Control) → at ≤ length o₀ → o₁ ≡ put o₀ at (headerBytes 2 20) → o₂ ≡ put o₁ (at + 6) (bytes4 (c .ic))
     → o₃ ≡ put o₂ (at + 10) (bytes4 (c .ir)) → o₄ ≡ put o₃ (at + 14) (bytes4 (c .im)) → o₅ ≡ put o₄ (at + 18) (bytes4 (c .pending)) → o₆ ≡ put o₅ (at + 22) (stateBytes c)
     → o₆ ≡ put o₀ at (recordBytes 2 (controlBytes c))
-unfolding headerBytes recordBytes controlBytes stateBytes
+unfolding headerBytes recordBytes controlBytes
 control-put o₀ o₁ o₂ o₃ o₄ o₅ o₆ at c h e₁ e₂ e₃ e₄ e₅ e₆ =
     let f₂ = put-then o₀ o₁ o₂ at (at + 6) _ _ e₁ e₂ refl h in
     let f₃ = put-then o₀ o₂ o₃ at (at + 10) _ _ f₂ e₃ refl h in

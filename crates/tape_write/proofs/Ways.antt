@@ -15,11 +15,10 @@ use Rattle.machine.specs.declared.Verdict.the-variants.{Accepted, Rejected}
 use Rattle.acceptance.specs.Accept.{judgeMachine}
 use Rattle.definition_tape.specs.declared.Written.{Written}
 use Rattle.definition_tape.specs.Blocks.{storeBlocks}
-use Rattle.definition_tape.specs.Bytes.{headerBytes, recordBytes, blocksBytes, controlBytes, remarkBytes, remarkSize, tapeOf}
+use Rattle.definition_tape.specs.Bytes.{headerBytes, recordBytes, blocksBytes, controlBytes, remarkRecord, tapeOf}
 use Rattle.definition_tape.specs.Writing.{remarkOf, remarkFits, judgeSize, judgeParts, judgeWriting, writing}
 use Rattle.tape_write.specs.Steps.{put, writtenAs}
 use Rattle.definition_tape.proofs.Bytes.{length-record, length-control}
-use Rattle.definition_tape.proofs.Lengths.{length-remark}
 use Rattle.tape_write.proofs.Puts.{put-then, put-none, put-first}
 
 -- ---- the remark
@@ -29,36 +28,39 @@ unfolding remarkFits
 remark-short true t e f = leb-true (length t) 255 f
 remark-short false t e f = let no : ⊥ = (let z : _≡_ {A = ℕ} 0 1 = cc in omega arith) in absurd no
 
-pub remark-size : (b : Bool) (t : List ℕ) → b ≡ true → remarkSize (remarkOf b t) ≡ 6 + length t
-unfolding remarkSize
-remark-size b t e = rw e
+pub remark-size : (b : Bool) (t : List ℕ) → b ≡ true → length (remarkRecord (remarkOf b t)) ≡ 6 + length t
+unfolding remarkRecord
+remark-size b t e = rw e (length-record 4 t)
 
-pub remark-small : (m : Option (List ℕ)) → remarkFits m ≡ true → remarkSize m ≤ 261
-unfolding remarkFits remarkSize
+pub no-remark-size : (b : Bool) (t : List ℕ) → b ≡ false → length (remarkRecord (remarkOf b t)) ≡ 0
+unfolding remarkRecord
+no-remark-size b t e = rw e
+
+pub remark-small : (m : Option (List ℕ)) → remarkFits m ≡ true → length (remarkRecord m) ≤ 261
+unfolding remarkFits remarkRecord
 remark-small none f = omega arith
-remark-small (some r) f = let l = leb-true (length r) 255 f in omega arith
+remark-small (some r) f = let l = leb-true (length r) 255 f in omega (arith, length-record 4 r)
 
-pub no-remark-put : (o : List ℕ) (b : Bool) (t : List ℕ) → b ≡ false → o ≡ put o 0 (remarkBytes (remarkOf b t))
-unfolding remarkBytes
+pub no-remark-put : (o : List ℕ) (b : Bool) (t : List ℕ) → b ≡ false → o ≡ put o 0 (remarkRecord (remarkOf b t))
+unfolding remarkRecord
 no-remark-put o b t e = rw e (sym (put-none o 0))
 
-pub remark-put : (o₀ o₁ o₂ : List ℕ) (b : Bool) (t : List ℕ) → b ≡ true → o₁ ≡ put o₀ 0 (headerBytes 4 (length t)) → o₂ ≡ put o₁ 6 t → o₂ ≡ put o₀ 0 (remarkBytes (remarkOf b t))
-unfolding remarkBytes recordBytes headerBytes
+pub remark-put : (o₀ o₁ o₂ : List ℕ) (b : Bool) (t : List ℕ) → b ≡ true → o₁ ≡ put o₀ 0 (headerBytes 4 (length t)) → o₂ ≡ put o₁ 6 t → o₂ ≡ put o₀ 0 (remarkRecord (remarkOf b t))
+unfolding remarkRecord recordBytes headerBytes
 remark-put o₀ o₁ o₂ b t e f g = rw e (put-then o₀ o₁ o₂ 0 6 (headerBytes 4 (length t)) t f g refl (omega arith))
 
 -- ---- the parts of the tape
 
 module _ (s : List ℕ) (c : Control) (m : Option (List ℕ)) where
-  pub parts-put : (o₀ o₁ o₂ o₃ o₄ : List ℕ) (at end : ℕ) → o₁ ≡ put o₀ 0 (remarkBytes m) → at ≡ remarkSize m → o₂ ≡ put o₁ at (blocksBytes (storeBlocks s))
+  pub parts-put : (o₀ o₁ o₂ o₃ o₄ : List ℕ) (at end : ℕ) → o₁ ≡ put o₀ 0 (remarkRecord m) → at ≡ length (remarkRecord m) → o₂ ≡ put o₁ at (blocksBytes (storeBlocks s))
       → end ≡ at + length (blocksBytes (storeBlocks s)) → o₃ ≡ put o₂ end (recordBytes 2 (controlBytes c)) → o₄ ≡ put o₃ (end + 26) (headerBytes 3 0)
       → o₄ ≡ put o₀ 0 (tapeOf s c m)
   unfolding tapeOf recordBytes
   parts-put o₀ o₁ o₂ o₃ o₄ at end e₁ a e₂ b e₃ e₄ =
-      let r = remarkBytes m in
+      let r = remarkRecord m in
       let bs = blocksBytes (storeBlocks s) in
       let k = recordBytes 2 (controlBytes c) in
       let h = headerBytes 3 0 in
-      let lr = length-remark m in
       let lk = length-record 2 (controlBytes c) in
       let lc = length-control c in
       let l₂ = length-append r bs in

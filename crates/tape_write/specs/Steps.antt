@@ -1,6 +1,6 @@
 -- For the functions inside the crate; no public contract rests on it. Bytes put into a buffer, and the blocks from a cell on.
 -- Assumes nothing.
-use Prim.Native.Nat.{ℕ, _+_, _*_, _%_}
+use Prim.Native.Nat.{ℕ, _+_, _*_}
 use mathlib.Core.Bool.{Bool, true, false, cond}
 use mathlib.Core.List.{List, [], _∷_, _++_}
 use mathlib.Core.Option.{Option}
@@ -8,7 +8,7 @@ use lib.ListN.{length, take, drop}
 use lib.Dec.{eqb}
 use Rattle.machine.specs.declared.Control.{Control}
 use Rattle.definition_tape.specs.Blocks.{blocksFrom}
-use Rattle.definition_tape.specs.Bytes.{recordBytes, blockBytes, blocksBytes, flagsByte, tapeOf}
+use Rattle.definition_tape.specs.Bytes.{recordBytes, blockBytes, blocksBytes, tapeOf}
 use Rattle.definition_tape.specs.Writing.{judgeParts, Writing, writingBy}
 
 -- the bytes bs from the place `at` of the buffer on, the others as they are
@@ -32,10 +32,6 @@ stretchBytes i (x ∷ cs) = recordBytes 1 (blockBytes (record { first = i; cells
 -- how many bytes a block of k cells takes
 abbrev pub blockSize : ℕ → ℕ
 blockSize k = cond (eqb k 0) 0 (10 + 4 * k)
-
--- the last four bytes of the control record
-unfoldable pub stateBytes : Control → List ℕ
-stateBytes c = c .pr % 256 ∷ c .ex % 256 ∷ flagsByte c ∷ 0 ∷ []
 
 -- what is written of a machine that passed 1 to 3
 unfoldable pub writtenAs : List ℕ → Control → Option (List ℕ) → List ℕ → Writing

@@ -1,20 +1,21 @@
 // Writing tapes: a machine and its remark into a lent buffer (document 02, E2). The first pass over the store counts the tape's bytes, the second
-// writes them. A function that writes takes the buffer and a place in it, and leaves all other bytes as they are.
+// writes them. A function that writes leaves all other bytes of the buffer as they are; where it takes no place it begins at the front.
 ghost use mathlib.Core.Path.{_≡_};
 ghost use mathlib.Core.Bool.{true};
 ghost use Prim.Native.Nat.{_+_, _*_, _%_, _≤_, _<_};
 ghost use lib.ListN.{length, getD, drop};
+ghost use Rattle.acceptance.specs.Accept.{mostCells};
 ghost use Rattle.definition_tape.specs.Blocks.{stretch, storeBlocks};
-ghost use Rattle.definition_tape.specs.Bytes.{bytes2, bytes4, headerBytes, recordBytes, cellsBytes, blocksBytes, flag, flagsByte, controlBytes, remarkBytes, remarkSize, tapeOf};
+ghost use Rattle.definition_tape.specs.Bytes.{bytes2, bytes4, headerBytes, recordBytes, cellsBytes, blocksBytes, flag, flagsByte, stateBytes, controlBytes, remarkRecord, tapeOf};
 ghost use Rattle.definition_tape.specs.Writing.{remarkOf, remarkFits, refusedWriting, writing};
-ghost use Rattle.tape_write.specs.Steps.{put, blocksAfter, allZero, stretchBytes, blockSize, stateBytes, writtenAs};
+ghost use Rattle.tape_write.specs.Steps.{put, blocksAfter, allZero, stretchBytes, blockSize, writtenAs};
 use definition_tape::MOST_BYTES;
 use definition_tape::Written;
 use machine::Control;
 use machine::Refusal;
 use machine::Verdict;
 
-// The cells that are tested for zero together: a part of the store that begins at a multiple of this.
+// How many cells are tested for zero together; such a part of the store begins at a multiple of it.
 const PART: usize = 256;
 
 // ---- numbers, little-endian
@@ -66,15 +67,15 @@ fn put_cells(out: &mut [u8], at: usize, cells: &[u32])
 }
 
 fn block_size(k: usize) -> usize
-    requires { ⌜ k ≤ 8388608 ⌝ }
+    requires { ⌜ k ≤ mostCells ⌝ }
     ensures { λ r. ⌜ r ≡ blockSize k ⌝ }
 {
     if k == 0 { 0 } else { 10 + 4 * k }
 }
 
-// The block of these cells, nothing for none.
+// The block of these cells. There is one at least; for none nothing is written, so that the contract needs no condition.
 fn put_stretch(out: &mut [u8], at: usize, first: u32, cells: &[u32])
-    requires { ⌜ (length (now cells) ≤ 8388608) × (at + blockSize (length (now cells)) ≤ length (now out)) ⌝ }
+    requires { ⌜ (length (now cells) ≤ mostCells) × (at + blockSize (length (now cells)) ≤ length (now out)) ⌝ }
     ensures { λ _. ⌜ now (out .exit) ≡ put (now (out .entry)) at (stretchBytes first (now (cells .entry))) ⌝ }
 {
     if cells.len() == 0 {
@@ -133,10 +134,11 @@ fn zero_cells(store: &[u32], i: usize) -> usize
     }
 }
 
+// At most 14 bytes for each cell, and for one behind the last.
 fn blocks_length(store: &[u32]) -> usize
-    requires { ⌜ length (now store) ≤ 8388608 ⌝ }
+    requires { ⌜ length (now store) ≤ mostCells ⌝ }
     ensures value { λ r. ⌜ r ≡ length (blocksBytes (storeBlocks (now (store .entry)))) ⌝ }
-    ensures bound { λ r. ⌜ r ≤ 117440526 ⌝ }
+    ensures bound { λ r. ⌜ r ≤ 14 * (mostCells + 1) ⌝ }
 {
     let mut total: usize = 0;
     let mut i: usize = 0;
@@ -146,6 +148,7 @@ fn blocks_length(store: &[u32]) -> usize
         } else {
             let k = stretch_length(store, i);
             total += block_size(k);
+            // the cell behind the stretch is zero, or there is none
             i += k + 1;
         }
     }
@@ -154,7 +157,7 @@ fn blocks_length(store: &[u32]) -> usize
 
 // The blocks of the store; the answer is the place after them.
 fn put_blocks(out: &mut [u8], from: usize, store: &[u32]) -> usize
-    requires { ⌜ (length (now store) ≤ 8388608) × (from + length (blocksBytes (storeBlocks (now store))) ≤ length (now out)) ⌝ }
+    requires { ⌜ (length (now store) ≤ mostCells) × (from + length (blocksBytes (storeBlocks (now store))) ≤ length (now out)) ⌝ }
     ensures place { λ r. ⌜ r ≡ from + length (blocksBytes (storeBlocks (now (store .entry)))) ⌝ }
     ensures bytes { λ _. ⌜ now (out .exit) ≡ put (now (out .entry)) from (blocksBytes (storeBlocks (now (store .entry)))) ⌝ }
 {
@@ -168,6 +171,7 @@ fn put_blocks(out: &mut [u8], from: usize, store: &[u32]) -> usize
             let end = i + k;
             put_stretch(out, at, i as u32, &store[i..end]);
             at += block_size(k);
+            // the cell behind the stretch is zero, or there is none
             i += k + 1;
         }
     }
@@ -235,7 +239,7 @@ fn remark_fits(given: bool, text: &[u8]) -> bool
 }
 
 fn remark_size(given: bool, text: &[u8]) -> usize
-    ensures { λ r. ⌜ r ≡ remarkSize (remarkOf given (now (text .entry))) ⌝ }
+    ensures { λ r. ⌜ r ≡ length (remarkRecord (remarkOf given (now (text .entry)))) ⌝ }
 {
     if given {
         return 6 + text.len();
@@ -244,8 +248,8 @@ fn remark_size(given: bool, text: &[u8]) -> usize
 }
 
 fn put_remark(out: &mut [u8], given: bool, text: &[u8])
-    requires { ⌜ (remarkFits (remarkOf given (now text)) ≡ true) × (remarkSize (remarkOf given (now text)) ≤ length (now out)) ⌝ }
-    ensures { λ _. ⌜ now (out .exit) ≡ put (now (out .entry)) 0 (remarkBytes (remarkOf given (now (text .entry)))) ⌝ }
+    requires { ⌜ (remarkFits (remarkOf given (now text)) ≡ true) × (length (remarkRecord (remarkOf given (now text))) ≤ length (now out)) ⌝ }
+    ensures { λ _. ⌜ now (out .exit) ≡ put (now (out .entry)) 0 (remarkRecord (remarkOf given (now (text .entry)))) ⌝ }
 {
     if !given {
         return;
@@ -257,14 +261,15 @@ fn put_remark(out: &mut [u8], given: bool, text: &[u8])
 // ---- the tape
 
 fn tape_length(store: &[u32], c: Control, given: bool, text: &[u8]) -> usize
-    requires { ⌜ (length (now store) ≤ 8388608) × (remarkFits (remarkOf given (now text)) ≡ true) ⌝ }
+    requires { ⌜ (length (now store) ≤ mostCells) × (remarkFits (remarkOf given (now text)) ≡ true) ⌝ }
     ensures { λ r. ⌜ r ≡ length (tapeOf (now (store .entry)) c (remarkOf given (now (text .entry)))) ⌝ }
 {
+    // 26 bytes of control record, 6 of end
     remark_size(given, text) + blocks_length(store) + 32
 }
 
 fn put_tape(out: &mut [u8], store: &[u32], c: Control, given: bool, text: &[u8])
-    requires { ⌜ (length (now store) ≤ 8388608) × (remarkFits (remarkOf given (now text)) ≡ true) × (length (tapeOf (now store) c (remarkOf given (now text))) ≤ length (now out)) ⌝ }
+    requires { ⌜ (length (now store) ≤ mostCells) × (remarkFits (remarkOf given (now text)) ≡ true) × (length (tapeOf (now store) c (remarkOf given (now text))) ≤ length (now out)) ⌝ }
     ensures { λ _. ⌜ now (out .exit) ≡ put (now (out .entry)) 0 (tapeOf (now (store .entry)) c (remarkOf given (now (text .entry)))) ⌝ }
 {
     put_remark(out, given, text);
@@ -284,7 +289,7 @@ fn refused(q: Refusal) -> Written
 }
 
 fn write_machine(store: &[u32], c: Control, given: bool, text: &[u8], out: &mut [u8]) -> Written
-    requires { ⌜ length (now store) ≤ 8388608 ⌝ }
+    requires { ⌜ length (now store) ≤ mostCells ⌝ }
     ensures answer { λ r. ⌜ r ≡ writtenAs (now (store .entry)) c (remarkOf given (now (text .entry))) (now (out .entry)) .answer ⌝ }
     ensures bytes { λ _. ⌜ now (out .exit) ≡ writtenAs (now (store .entry)) c (remarkOf given (now (text .entry))) (now (out .entry)) .bytes ⌝ }
 {

@@ -26,7 +26,7 @@ use Rattle.definition_tape.proofs.Lengths.{length-tape}
 use Rattle.tape_promises.proofs.Claims.{accepted-tapes}
 use Rattle.tape_promises.proofs.Numbers.{Gives, gives-none, Decides, tested, not-both, above, size-decides, exactly}
 use Rattle.definition_tape.specs.Blocks.{stretch, blocksFrom, storeBlocks}
-use Rattle.definition_tape.specs.Bytes.{recordBytes, blockBytes, blocksBytes, remarkSize, tapeOf}
+use Rattle.definition_tape.specs.Bytes.{recordBytes, blockBytes, blocksBytes, remarkRecord, tapeOf}
 use Rattle.definition_tape.specs.Writing.{remarkOf, remarkFits, Writable, judgeSize, judgeParts, judgeWriting, writing}
 use Rattle.writer_promises.specs.Claims.{occupied, ReadNumbers, ReadControl, WrittenTapeLength, GoodTape, RoundTrip, EqualTapes, WrittenTapes, TapeInBuffer, BufferAsGiven, remarkLength, tapeSize, LongRemark, WritingRefused, WritingNumbers}
 use Rattle.definition_tape.proofs.Bytes.{four-bytes, control-back, length-record, length-block}
@@ -57,10 +57,10 @@ length-blocks false i (suc x ∷ s) =
     let h = length-block (record { first = i; cells = suc x ∷ stretch s }) in
     omega arith
 
-remark-size : (m : Option (List ℕ)) → remarkSize m ≡ remarkLength m
-unfolding remarkSize
+remark-size : (m : Option (List ℕ)) → length (remarkRecord m) ≡ remarkLength m
+unfolding remarkRecord
 remark-size none = refl
-remark-size (some r) = refl
+remark-size (some r) = length-record 4 r
 
 pub written-tape-length : WrittenTapeLength
 unfolding storeBlocks

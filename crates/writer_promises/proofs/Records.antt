@@ -9,14 +9,14 @@ use borrow.Author.Tests.{leb-true}
 use lib.ListN.{length}
 use Rattle.machine.specs.declared.Control.{Control}
 use Rattle.acceptance.specs.Accept.{cellsFit, controlFits}
-use Rattle.definition_tape.specs.Layout.{kindOf, payloadOf, recordsOf}
+use Rattle.definition_tape.specs.Layout.{recordsOf}
 use Rattle.definition_tape.specs.Blocks.{Block, storeBlocks}
-use Rattle.definition_tape.specs.Bytes.{recordBytes, blockBytes, blocksBytes, controlBytes, remarkBytes, tapeOf}
+use Rattle.definition_tape.specs.Bytes.{recordBytes, blockBytes, blocksBytes, controlBytes, remarkRecord, tapeOf}
 use Rattle.definition_tape.specs.Writing.{remarkFits}
 use Rattle.definition_tape.proofs.Bytes.{reads, length-block, first-back, block-back, length-control, control-back}
 use Rattle.definition_tape.proofs.Records.{records-none, records-more}
 use Rattle.definition_tape.proofs.Machines.{machine}
-use Rattle.writer_promises.specs.Claims.{Content, block, control, end, remark, contentOf, remarkContents, TapeRecords}
+use Rattle.writer_promises.specs.Claims.{Content, block, control, end, contentOf, remarkContents, TapeRecords}
 use Rattle.writer_promises.proofs.Tapes.{Fit, fit-blocks}
 
 abbrev contentsOf : List ℕ → List Content
@@ -56,8 +56,8 @@ in-control c f =
     (ap (λ (x : List Content). control c ∷ x)
     (ap contentsOf (sym (append-nil (recordBytes 3 []))) ∙ next 3 [] [] (omega arith) (omega arith) ∙ rw (e .kind, records-none [] (omega arith))))
 
-in-remark : (m : Option (List ℕ)) (t : List ℕ) → remarkFits m ≡ true → contentsOf (remarkBytes m ++ t) ≡ remarkContents m ++ contentsOf t
-unfolding remarkFits remarkBytes contentOf
+in-remark : (m : Option (List ℕ)) (t : List ℕ) → remarkFits m ≡ true → contentsOf (remarkRecord m ++ t) ≡ remarkContents m ++ contentsOf t
+unfolding remarkFits remarkRecord contentOf
 in-remark none t f = refl
 in-remark (some p) t f =
     let l = leb-true (length p) 255 f in

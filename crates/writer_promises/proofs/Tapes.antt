@@ -20,7 +20,7 @@ use Rattle.acceptance.proofs.Tests.{both}
 use Rattle.definition_tape.proofs.Firsts.{first-here, first-next, first-none}
 use Rattle.definition_tape.proofs.Loads.{load-more, load-none}
 use Rattle.definition_tape.specs.Blocks.{Block, stretch, blocksFrom, storeBlocks}
-use Rattle.definition_tape.specs.Bytes.{headerBytes, recordBytes, blockBytes, blocksBytes, controlBytes, remarkBytes, tapeOf}
+use Rattle.definition_tape.specs.Bytes.{headerBytes, recordBytes, blockBytes, blocksBytes, controlBytes, remarkRecord, tapeOf}
 use Rattle.definition_tape.specs.Writing.{remarkOf, remarkFits}
 use Rattle.definition_tape.proofs.Bytes.{four-bytes, reads, length-block, first-back, count-back, block-back, length-control, control-back, flags-small}
 use Rattle.definition_tape.proofs.Stretches.{front, stretch-short}
@@ -105,8 +105,8 @@ control-then n c f =
     (control-payload c f)
     (header 3 0 (omega arith) (omega arith)))
 
-pub remark-before : (n : ℕ) (m : Option (List ℕ)) (t : List ℕ) → remarkFits m ≡ true → Records n t → Records n (remarkBytes m ++ t)
-unfolding remarkFits remarkBytes recordBytes
+pub remark-before : (n : ℕ) (m : Option (List ℕ)) (t : List ℕ) → remarkFits m ≡ true → Records n t → Records n (remarkRecord m ++ t)
+unfolding remarkFits remarkRecord recordBytes
 remark-before n none t f r = r
 remark-before n (some p) t f r =
     let l = leb-true (length p) 255 f in
@@ -242,15 +242,15 @@ module _ (c : Control) where
 
 -- ---- the whole tape
 
-load-remark : (s : List ℕ) (m : Option (List ℕ)) (t : List ℕ) → remarkFits m ≡ true → loadRecords s (recordsOf (remarkBytes m ++ t)) ≡ loadRecords s (recordsOf t)
-unfolding remarkFits remarkBytes
+load-remark : (s : List ℕ) (m : Option (List ℕ)) (t : List ℕ) → remarkFits m ≡ true → loadRecords s (recordsOf (remarkRecord m ++ t)) ≡ loadRecords s (recordsOf t)
+unfolding remarkFits remarkRecord
 load-remark s none t f = refl
 load-remark s (some r) t f =
     let l = leb-true (length r) 255 f in
     load-other 4 r t (omega arith) (omega arith) s (λ e. omega arith)
 
-skip-remark : (m : Option (List ℕ)) (t : List ℕ) → remarkFits m ≡ true → firstOf 2 (recordsOf (remarkBytes m ++ t)) ≡ firstOf 2 (recordsOf t)
-unfolding remarkFits remarkBytes
+skip-remark : (m : Option (List ℕ)) (t : List ℕ) → remarkFits m ≡ true → firstOf 2 (recordsOf (remarkRecord m ++ t)) ≡ firstOf 2 (recordsOf t)
+unfolding remarkFits remarkRecord
 skip-remark none t f = refl
 skip-remark (some r) t f =
     let l = leb-true (length r) 255 f in
@@ -282,7 +282,7 @@ abbrev pub textOf : List ℕ → Option (List ℕ)
 textOf w = remarkOf (spanBy Accepted w (firstOf 4 (recordsOf w)) .found) (textBy Accepted (firstOf 4 (recordsOf w)))
 
 pub tape-remark : (s : List ℕ) (c : Control) (m : Option (List ℕ)) → length s ≤ 8388608 → cellsFit s ≡ true → remarkFits m ≡ true → textOf (tapeOf s c m) ≡ m
-unfolding tapeOf remarkBytes remarkFits
+unfolding tapeOf remarkRecord remarkFits
 tape-remark s c none u e g = rw (skip-blocks (length s) 4 (storeBlocks s) (recordBytes 2 (controlBytes c) ++ recordBytes 3 []) u (fit-blocks s e) (λ z. omega arith) ∙ no-remark c)
 tape-remark s c (some r) u e g =
     let l = leb-true (length r) 255 g in

@@ -50,6 +50,11 @@ unfoldable pub HoldsCells : List ℕ → List Block → Type 0
 HoldsCells s [] = Unit {0}
 HoldsCells s (b ∷ bs) = ((j : ℕ) → j < length (b .cells) → getD (b .cells) j 0 ≡ getD s (b .first + j) 0) × HoldsCells s bs
 
+-- every number is one of eight bits
+unfoldable pub AllBytes : List ℕ → Type 0
+AllBytes [] = Unit {0}
+AllBytes (x ∷ t) = (x < 256) × AllBytes t
+
 -- ---- what a record holds, as the layout reads it
 
 pub data Content : Type 0 where
@@ -85,6 +90,10 @@ abbrev pub TapeRecords : Type 0
 TapeRecords =
     (s : List ℕ) (c : Control) (m : Option (List ℕ)) → Writable s c m
     → map contentOf (recordsOf (tapeOf s c m)) ≡ remarkContents m ++ (map block (storeBlocks s) ++ (control c ∷ end ∷ []))
+
+-- the tape is a row of bytes, where the remark is
+abbrev pub TapeBytes : Type 0
+TapeBytes = (s : List ℕ) (c : Control) (m : Option (List ℕ)) → ((r : List ℕ) → m ≡ some r → AllBytes r) → AllBytes (tapeOf s c m)
 
 -- the bytes of a remark: its record has a header of six
 abbrev pub remarkLength : Option (List ℕ) → ℕ

@@ -2,10 +2,8 @@
 //! and buffers.
 
 use crate::machine::{bit, Machine};
+use compare::LAST_RECORDS;
 use protocol::Request;
-
-/// The bytes of control and end record.
-const LAST_RECORDS: usize = 26 + 6;
 
 /// All of them.
 pub fn cases() -> Vec<Request> {

@@ -19,6 +19,7 @@ pub use coverage::{Coverage, MNEMONICS};
 pub use generator::{case, Case};
 pub use tapes::{Damage, DAMAGES};
 pub use words::{assemble, WORD};
+pub use writes::LAST_RECORDS;
 
 use protocol::{Answer, FrontEnd, Listed, Machine, Request, Write};
 use std::fmt;

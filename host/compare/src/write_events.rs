@@ -1,8 +1,8 @@
 //! What cases were about, as far as the writer goes: names for `Coverage`.
 
 use crate::words::WORD;
-use crate::writes::{length, LONGEST};
-use emulation::Refusal;
+use crate::writes::length;
+use emulation::{Refusal, MAXIMUM_TAPE};
 use protocol::{Answer, Write};
 
 /// All names that the function here gives.
@@ -93,12 +93,12 @@ fn store_events(write: &Write) -> Vec<&'static str> {
 
 fn length_events(space: usize, length: usize) -> Vec<&'static str> {
     holding(&[
-        (length == LONGEST, "written tape of 65,536 bytes"),
+        (length == MAXIMUM_TAPE, "written tape of 65,536 bytes"),
         (length >= 65_500, "written tape of 65,500 bytes or more"),
         (space == length, "written into a buffer as long as the tape"),
         (space == length + 1, "written into a buffer one byte longer"),
         (
-            space >= LONGEST,
+            space >= MAXIMUM_TAPE,
             "written into a buffer of 65,536 bytes or more",
         ),
     ])
@@ -111,11 +111,11 @@ fn refusal_events(write: &Write, refusal: Refusal, length: usize) -> Vec<&'stati
         Refusal::ControlField => holding(&[(remark > 255, "write: 3 before 14")]),
         Refusal::RemarkLength => holding(&[
             (remark == 256, "write: 14 by a remark of 256 bytes"),
-            (length > LONGEST, "write: 14 before 15"),
+            (length > MAXIMUM_TAPE, "write: 14 before 15"),
             (short, "write: 14 before 16"),
         ]),
         Refusal::WrittenLength => holding(&[
-            (length <= LONGEST + 4, "write: 15 by 1 to 4 bytes"),
+            (length <= MAXIMUM_TAPE + 4, "write: 15 by 1 to 4 bytes"),
             (short, "write: 15 before 16"),
             (!short, "write: 15 with room for the tape"),
         ]),

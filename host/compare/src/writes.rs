@@ -3,13 +3,11 @@
 use crate::machines::{self, Image};
 use crate::random::Random;
 use crate::words::WORD;
+use emulation::MAXIMUM_TAPE;
 use protocol::Listed;
 
-/// The most bytes of a tape.
-pub const LONGEST: usize = 65_536;
-
 /// The bytes of control and end record.
-const LAST_RECORDS: usize = 26 + 6;
+pub const LAST_RECORDS: usize = 26 + 6;
 
 /// The bytes of a block beside its cells, and of one cell.
 const BLOCK: usize = 10;
@@ -130,8 +128,14 @@ fn clear_stretches(random: &mut Random, cells: &mut [u32]) {
 /// A machine whose tape has about as many bytes as a tape can. The remark, if
 /// there is one, is made longer by what is left over.
 fn image_near_limit(random: &mut Random, remark: &mut Option<Vec<u8>>) -> Image {
-    let about = LONGEST - 8 + random.below(17) as usize;
-    let length = random.pick(&[LONGEST, LONGEST, LONGEST + 1, LONGEST - 4, about]);
+    let about = MAXIMUM_TAPE - 8 + random.below(17) as usize;
+    let length = random.pick(&[
+        MAXIMUM_TAPE,
+        MAXIMUM_TAPE,
+        MAXIMUM_TAPE + 1,
+        MAXIMUM_TAPE - 4,
+        about,
+    ]);
     if let Some(text) = remark {
         text.truncate(252);
     }
@@ -177,7 +181,7 @@ fn space(random: &mut Random, length: usize) -> usize {
     match random.below(100) {
         0..=6 => length - 1,
         7 => random.below(length as u32) as usize,
-        8 => random.pick(&[LONGEST, LONGEST + 1, 70_000, usize::MAX]),
+        8 => random.pick(&[MAXIMUM_TAPE, MAXIMUM_TAPE + 1, 70_000, usize::MAX]),
         9..=59 => length,
         60..=79 => length + 1,
         _ => length + random.below(40) as usize,
@@ -202,7 +206,7 @@ pub fn refuse_length(random: &mut Random, writing: &mut Writing) {
     writing.image.high.clear();
     writing.image.size = 2 * blocks + random.below(3) as usize;
     let length = writing.length();
-    writing.space = random.pick(&[0, LONGEST, length - 1, length, length + 300]);
+    writing.space = random.pick(&[0, MAXIMUM_TAPE, length - 1, length, length + 300]);
 }
 
 /// Brings about refusal 16.

@@ -2,7 +2,8 @@
 
 use compare::{case, compare, Coverage};
 use protocol::{
-    Control, Devices, Emulation, Kind, Listed, Machine, Outcome, Refusal, Report, Request,
+    output_buffer, Control, Devices, Emulation, Kind, Listed, Machine, Outcome, Refusal, Report,
+    Request,
 };
 
 #[test]
@@ -39,13 +40,17 @@ fn store_of(request: &Request) -> Option<&Listed> {
 /// then made too small.
 #[test]
 fn the_cells_of_a_case_rise() {
+    let (mut stores, mut small) = (0, 0);
     for number in 400_000..440_000 {
         let request = case(4001, number).request;
         if let Some(Listed { size, cells }) = store_of(&request) {
             assert!(cells.windows(2).all(|two| two[0].0 < two[1].0), "{number}");
             assert!(cells.iter().all(|&(index, _)| index < *size), "{number}");
+            stores += 1;
+            small += u32::from(*size < 8);
         }
     }
+    assert!(stores > 30_000 && small > 0, "{stores} {small}");
 }
 
 /// What is wrong with a machine.
@@ -335,11 +340,11 @@ impl Flawed {
                 return Err(Refusal::BufferLength)
             }
             Flaw::WriteRefusesLongestTape if length == 65_536 => {
-                tape.copy_from_slice(&lent(tape.len()));
+                tape.copy_from_slice(&output_buffer(tape.len()));
                 return Err(Refusal::WrittenLength);
             }
             Flaw::WriteRefusesLongestRemark if text == 255 => {
-                tape.copy_from_slice(&lent(tape.len()));
+                tape.copy_from_slice(&output_buffer(tape.len()));
                 return Err(Refusal::RemarkLength);
             }
             _ => (),
@@ -360,11 +365,6 @@ impl Flawed {
         }
         refusal
     }
-}
-
-/// What the front end lends for a tape.
-fn lent(space: usize) -> Vec<u8> {
-    (0..space).map(|place| (place % 255) as u8 + 1).collect()
 }
 
 /// Makes two blocks of the first one, where there is one of two cells or more

@@ -41,7 +41,7 @@ fn loads_back(tape: &[u8], store: &[u32], control: Control, text: Option<&[u8]>)
 }
 
 /// Writes a machine and loads it again; the tape.
-fn there_and_back(store: &[u32], control: Control, text: Option<&[u8]>) -> Vec<u8> {
+fn written_and_loaded(store: &[u32], control: Control, text: Option<&[u8]>) -> Vec<u8> {
     let tape = written(store, control, text).unwrap();
     loads_back(&tape, store, control, text);
     tape
@@ -54,7 +54,7 @@ fn every_byte_of_a_tape() {
     store[5] = 5;
     store[6] = 0x0700_0000;
     store[11] = 0x07ff_ffff;
-    let tape = there_and_back(&store, record(), Some(b"part"));
+    let tape = written_and_loaded(&store, record(), Some(b"part"));
     let expected: [&[u8]; 6] = [
         &[4, 0, 0, 0, 4, 0, b'p', b'a', b'r', b't'],
         &[8, 0, 0, 0, 1, 0, 0, 0, 0, 0, 4, 3, 2, 1],
@@ -83,7 +83,7 @@ fn the_flags_of_each_mode() {
             reset,
             ..record()
         };
-        let tape = there_and_back(&[0; 8], control, None);
+        let tape = written_and_loaded(&[0; 8], control, None);
         assert_eq!(tape.len(), LAST_RECORDS);
         assert_eq!(tape[24], flags);
     }
@@ -91,7 +91,7 @@ fn the_flags_of_each_mode() {
 
 #[test]
 fn a_store_of_zeros_has_no_block() {
-    let tape = there_and_back(&[0; 4096], Control::fresh(), None);
+    let tape = written_and_loaded(&[0; 4096], Control::fresh(), None);
     let mut expected = vec![20, 0, 0, 0, 2, 0];
     expected.extend([0; 16]);
     expected.extend([128, 0, 5, 0]);
@@ -103,7 +103,7 @@ fn a_store_of_zeros_has_no_block() {
 fn a_store_without_zeros_is_one_block() {
     for size in [8, 9, 64, 4096] {
         let store: Vec<u32> = (1..=size).collect();
-        let tape = there_and_back(&store, record(), None);
+        let tape = written_and_loaded(&store, record(), None);
         assert_eq!(tape.len(), 10 + 4 * store.len() + LAST_RECORDS);
     }
 }
@@ -113,7 +113,7 @@ fn a_key_without_a_word_is_written() {
     for place in 0..8 {
         let mut store = vec![0; 8];
         store[place] = 1 << 24;
-        let tape = there_and_back(&store, Control::fresh(), None);
+        let tape = written_and_loaded(&store, Control::fresh(), None);
         assert_eq!(tape.len(), 14 + LAST_RECORDS);
         assert_eq!(tape[6], place as u8);
         assert_eq!(tape[10..14], [0, 0, 0, 1]);
@@ -126,7 +126,7 @@ fn cells_at_both_ends() {
         let mut store = vec![0; size];
         store[0] = 1;
         store[size - 1] = 2;
-        let tape = there_and_back(&store, Control::fresh(), None);
+        let tape = written_and_loaded(&store, Control::fresh(), None);
         assert_eq!(tape.len(), 2 * 14 + LAST_RECORDS);
         assert_eq!(tape[20..24], (size as u32 - 1).to_le_bytes());
     }
@@ -136,7 +136,7 @@ fn cells_at_both_ends() {
 fn every_pattern_of_eight_cells() {
     for pattern in 0..256_u32 {
         let store: Vec<u32> = (0..8).map(|place| pattern >> place & 1).collect();
-        let tape = there_and_back(&store, record(), None);
+        let tape = written_and_loaded(&store, record(), None);
         let starts = (pattern & !(pattern << 1)).count_ones();
         let bytes = 10 * starts + 4 * pattern.count_ones();
         assert_eq!(tape.len(), bytes as usize + LAST_RECORDS);
@@ -146,13 +146,13 @@ fn every_pattern_of_eight_cells() {
 #[test]
 fn remarks_of_every_kind() {
     let store = [1, 0, 2, 0, 0, 3, 4, 5];
-    let none = there_and_back(&store, record(), None);
-    let empty = there_and_back(&store, record(), Some(b""));
+    let none = written_and_loaded(&store, record(), None);
+    let empty = written_and_loaded(&store, record(), Some(b""));
     assert_eq!(empty[..6], [0, 0, 0, 0, 4, 0]);
     assert_eq!(empty[6..], none);
     let text: Vec<u8> = (0..=255).collect();
     for length in [1, 254, 255] {
-        let tape = there_and_back(&store, record(), Some(&text[..length]));
+        let tape = written_and_loaded(&store, record(), Some(&text[..length]));
         assert_eq!(tape.len(), 6 + length + none.len());
     }
     let refused = written(&store, record(), Some(&text));
@@ -172,14 +172,14 @@ fn store_for(length: usize) -> Vec<u32> {
 fn tapes_about_the_most_bytes() {
     // One block: its length and 42 make 65,534 and 65,538.
     let longest = store_for(65_534);
-    assert_eq!(there_and_back(&longest, record(), None).len(), 65_534);
+    assert_eq!(written_and_loaded(&longest, record(), None).len(), 65_534);
     let refused = written(&store_for(65_538), record(), None);
     assert_eq!(refused, Err(Refusal::WrittenLength));
-    // Two blocks: 65,532, 65,536 and 65,540.
+    // Two blocks: 65,528, 65,532, 65,536 and 65,540.
     let mut cells = vec![7; 16_400];
     cells[5] = 0;
     for (count, length) in [(16_370, 65_528), (16_371, 65_532), (16_372, 65_536)] {
-        let tape = there_and_back(&cells[..count], record(), None);
+        let tape = written_and_loaded(&cells[..count], record(), None);
         assert_eq!(tape.len(), length);
     }
     let refused = written(&cells[..16_373], record(), None);
@@ -191,7 +191,7 @@ fn remarks_up_to_the_most_bytes() {
     let store = store_for(65_526);
     let text = [b'.'; 5];
     for length in 0..=4 {
-        let tape = there_and_back(&store, record(), Some(&text[..length]));
+        let tape = written_and_loaded(&store, record(), Some(&text[..length]));
         assert_eq!(tape.len(), 65_532 + length);
     }
     let refused = written(&store, record(), Some(&text));

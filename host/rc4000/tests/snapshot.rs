@@ -10,9 +10,11 @@ use std::ffi::OsString;
 use std::os::unix::ffi::OsStringExt;
 use std::path::{Path, PathBuf};
 
-/// A file for a test of this name.
+/// A file for a test of this name, not there yet.
 fn file(name: &str) -> PathBuf {
-    Path::new(env!("CARGO_TARGET_TMPDIR")).join(name)
+    let path = Path::new(env!("CARGO_TARGET_TMPDIR")).join(name);
+    let _ = std::fs::remove_file(&path);
+    path
 }
 
 fn example(name: &str) -> PathBuf {
@@ -89,14 +91,13 @@ fn a_remark_is_bytes() {
     assert_eq!(remark(&written, 4096), Ok(Some(&b"r\xf8d"[..])));
 }
 
-/// No snapshot, for this reason, and no file.
+/// No snapshot, for this reason.
 fn fails(status: u8, text: &str, arguments: &[OsString]) {
     let expected = Failure {
         status,
         text: text.into(),
     };
     assert_eq!(answer(arguments), Err(expected));
-    assert!(!file("none").exists());
 }
 
 #[test]
@@ -123,4 +124,5 @@ fn what_is_wrong_is_said() {
     let folder = file("absent").join("none");
     let unwritten = answer(&arguments(&tape, "1", &folder, None)).unwrap_err();
     assert_eq!(unwritten.status, 1);
+    assert!(!none.exists());
 }

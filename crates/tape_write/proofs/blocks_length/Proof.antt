@@ -12,7 +12,8 @@ use Rattle.tape_write.proofs.blocks_length.Statement.{statement}
 use Rattle.tape_write.proofs.blocks_length.Tie as tie
 
 abbrev Inv-loop : tie.InvT-loop
-Inv-loop store total₀ i₀ total i = (i ≤ length store + 1) × (total ≤ 14 * i) × (total + length (blocksAfter store i) ≡ length (blocksBytes (storeBlocks store)))
+Inv-loop store total₀ i₀ total i =
+    (i ≤ length store + 1) × (total ≤ 14 * i) × (total + length (blocksAfter store i) ≡ length (blocksBytes (storeBlocks store)))
 
 abbrev μ-loop : tie.MeasureT-loop
 μ-loop store total₀ i₀ total i = length store + 1 - i
@@ -48,7 +49,9 @@ block-size-requires : tie.Need-block-size-requires Inv-loop μ-loop
 block-size-requires c κs = omega (arith, c .stretch-length .ensures)
 
 add-total : tie.Need-add-total Inv-loop μ-loop
-add-total c = omega (arith, size-most (c .before .stretch-length .result), c .block-size .ensures, c .before .stretch-length .ensures, c .before .before .before .before .before .loop .inv)
+add-total c =
+    let b4 = c .before .before .before .before in
+    omega (arith, size-most (c .before .stretch-length .result), c .block-size .ensures, c .before .stretch-length .ensures, b4 .before .loop .inv)
 
 add-i-2 : tie.Need-add-i-2 Inv-loop μ-loop
 add-i-2 c = omega (arith, c .before .stretch-length .ensures)

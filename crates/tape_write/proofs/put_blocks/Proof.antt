@@ -12,7 +12,10 @@ use Rattle.tape_write.proofs.put_blocks.Statement.{statement}
 use Rattle.tape_write.proofs.put_blocks.Tie as tie
 
 abbrev Inv-loop : tie.InvT-loop
-Inv-loop out₀ from store at₀ i₀ out at i = (i ≤ length store + 1) × (length out ≡ length out₀) × (at + length (blocksAfter store i) ≡ from + length (blocksBytes (storeBlocks store))) × (put out at (blocksAfter store i) ≡ put out₀ from (blocksBytes (storeBlocks store)))
+Inv-loop out₀ from store at₀ i₀ out at i =
+    (i ≤ length store + 1) × (length out ≡ length out₀)
+    × (at + length (blocksAfter store i) ≡ from + length (blocksBytes (storeBlocks store)))
+    × (put out at (blocksAfter store i) ≡ put out₀ from (blocksBytes (storeBlocks store)))
 
 abbrev μ-loop : tie.MeasureT-loop
 μ-loop out₀ from store at₀ i₀ out at i = length store + 1 - i
@@ -64,41 +67,62 @@ part-put-stretch-end c = search needs
 
 put-stretch-requires : tie.Need-put-stretch-requires Inv-loop μ-loop
 put-stretch-requires c κs =
-    let a = c .before .before .before .before .before .before .before .before .before .args in
-    let l = c .before .before .before .before .before .before .loop in
+    let b4 = c .before .before .before .before in
+    let b8 = b4 .before .before .before .before in
+    let a = b8 .before .args in
+    let l = b4 .before .before .loop in
     let k = c .before .before .stretch-length in
-    part-fits (now (a .store)) (l .i) (k .result) (k .ensures .0) (k .ensures .1) (l .at) (length (l .out)) (c .before .before .before .before .before .before .before .before .before .pre .0) (omega (arith, l .inv, c .before .before .before .before .before .before .before .before .before .pre))
+    part-fits (now (a .store)) (l .i) (k .result) (k .ensures .0) (k .ensures .1) (l .at) (length (l .out)) (b8 .before .pre .0)
+    (omega (arith, l .inv, b8 .before .pre))
 
 block-size-requires : tie.Need-block-size-requires Inv-loop μ-loop
-block-size-requires c κs = omega (arith, c .before .before .before .before .before .stretch-length .ensures, c .before .before .before .before .before .before .before .before .before .before .before .before .pre)
+block-size-requires c κs =
+    let b4 = c .before .before .before .before in
+    let b8 = b4 .before .before .before .before in
+    let b12 = b8 .before .before .before .before in
+    omega (arith, b4 .before .stretch-length .ensures, b12 .pre)
 
 add-at : tie.Need-add-at Inv-loop μ-loop
 add-at c =
-    let a = c .before .before .before .before .before .before .before .before .before .before .before .before .before .args in
-    let l = c .before .before .before .before .before .before .before .before .before .before .loop in
-    let k = c .before .before .before .before .before .before .stretch-length in
+    let b4 = c .before .before .before .before in
+    let b8 = b4 .before .before .before .before in
+    let b12 = b8 .before .before .before .before in
+    let a = b12 .before .args in
+    let l = b8 .before .before .loop in
+    let k = b4 .before .before .stretch-length in
     let z = size-step (now (a .store)) (l .i) (k .result) (k .ensures .0) (k .ensures .1) in
-    omega (arith, l .inv, c .before .before .before .before .before .before .before .before .before .before .before .before .before .pre, c .block-size .ensures)
+    omega (arith, l .inv, b12 .before .pre, c .block-size .ensures)
 
 add-i-2 : tie.Need-add-i-2 Inv-loop μ-loop
-add-i-2 c = omega (arith, c .before .before .before .before .before .before .stretch-length .ensures, c .before .before .before .before .before .before .before .before .before .before .before .before .before .pre)
+add-i-2 c =
+    let b4 = c .before .before .before .before in
+    let b8 = b4 .before .before .before .before in
+    let b12 = b8 .before .before .before .before in
+    omega (arith, b4 .before .before .stretch-length .ensures, b12 .before .pre)
 
 add-i-3 : tie.Need-add-i-3 Inv-loop μ-loop
-add-i-3 c = omega (arith, c .before .before .before .before .before .before .stretch-length .ensures, c .before .before .before .before .before .before .before .before .before .before .before .before .before .pre)
+add-i-3 c =
+    let b4 = c .before .before .before .before in
+    let b8 = b4 .before .before .before .before in
+    let b12 = b8 .before .before .before .before in
+    omega (arith, b4 .before .before .stretch-length .ensures, b12 .before .pre)
 
 loop-less-2 : tie.Need-loop-less-2 Inv-loop μ-loop
 loop-less-2 c = omega (arith, c .before .before .before .before .before .before .stretch-length .ensures)
 
 loop-again-2 : tie.Need-loop-again-2 Inv-loop μ-loop
 loop-again-2 c =
-    let a = c .before .before .before .before .before .before .before .before .before .before .before .before .before .args in
+    let b4 = c .before .before .before .before in
+    let b8 = b4 .before .before .before .before in
+    let b12 = b8 .before .before .before .before in
+    let a = b12 .before .args in
     let s = now (a .store) in
-    let l = c .before .before .before .before .before .before .before .before .before .before .loop in
-    let k = c .before .before .before .before .before .before .stretch-length in
+    let l = b8 .before .before .loop in
+    let k = b4 .before .before .stretch-length in
     let p = c .before .before .before .put-stretch in
     let e = c .block-size .ensures in
     let z = size-step s (l .i) (k .result) (k .ensures .0) (k .ensures .1) in
-    let b : l .at ≤ length (l .out) = omega (arith, l .inv, c .before .before .before .before .before .before .before .before .before .before .before .before .before .pre) in
+    let b : l .at ≤ length (l .out) = omega (arith, l .inv, b12 .before .pre) in
     (omega (arith, k .ensures), p .kept .0 ∙ l .inv .1, omega (arith, l .inv), rw e (put-step s (l .i) (k .result) (k .ensures .0) (k .ensures .1) (l .out) _ (l .at) b (p .ensures) ∙ l .inv .3))
 
 same-length : tie.Need-same-length Inv-loop μ-loop

@@ -42,10 +42,12 @@ loop-less c = search needs
 
 loop-again : tie.Need-loop-again Inv-loop μ-loop
 loop-again c =
-    let a = c .before .before .before .before .before .before .before .before .before .args in
-    let l = c .before .before .before .before .before .before .loop in
+    let b4 = c .before .before .before .before in
+    let b8 = b4 .before .before .before .before in
+    let a = b8 .before .args in
+    let l = b4 .before .before .loop in
     let n = c .before .before .put-number in
-    (omega arith, n .kept .0 ∙ l .inv .1, cells-more (now (a .out)) (l .out) _ (a .at) (l .i) _ (now (a .cells)) (omega arith) (c .before .before .before .before .before .loop-test .taken) (l .inv .2) refl (n .ensures))
+    (omega arith, n .kept .0 ∙ l .inv .1, cells-more (now (a .out)) (l .out) _ (a .at) (l .i) _ (now (a .cells)) (omega arith) (b4 .before .loop-test .taken) (l .inv .2) refl (n .ensures))
 
 same-length : tie.Need-same-length Inv-loop μ-loop
 same-length c = c .before .loop .inv .1

@@ -41,7 +41,15 @@ same-length : tie.Need-same-length
 same-length c = search needs
 
 returns : tie.Need-returns
-returns c = control-put _ _ _ _ _ _ _ _ _ (omega arith) (c .before .before .before .before .before .before .before .before .before .before .before .before .before .before .before .before .before .before .before .before .before .before .put-header .ensures) (c .before .before .before .before .before .before .before .before .before .before .before .before .before .before .before .before .before .before .put-number .ensures) (c .before .before .before .before .before .before .before .before .before .before .before .before .before .before .put-number2 .ensures) (c .before .before .before .before .before .before .before .before .before .before .put-number3 .ensures) (c .before .before .before .before .before .before .put-number4 .ensures) (c .before .before .put-state .ensures)
+returns c =
+    let b4 = c .before .before .before .before in
+    let b8 = b4 .before .before .before .before in
+    let b12 = b8 .before .before .before .before in
+    let b16 = b12 .before .before .before .before in
+    let b20 = b16 .before .before .before .before in
+    control-put _ _ _ _ _ _ _ _ _ (omega arith) (b20 .before .before .put-header .ensures) (b16 .before .before .put-number .ensures)
+    (b12 .before .before .put-number2 .ensures) (b8 .before .before .put-number3 .ensures) (b4 .before .before .put-number4 .ensures)
+    (c .before .before .put-state .ensures)
 
 pub put-control-spec : {M : Type 1} → statement M
 put-control-spec =

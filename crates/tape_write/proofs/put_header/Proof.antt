@@ -17,7 +17,9 @@ same-length : tie.Need-same-length
 same-length c = search needs
 
 returns : tie.Need-returns
-returns c = header-put _ _ _ _ _ _ (omega arith) (c .before .before .before .before .before .before .put-number .ensures) (c .before .before .put-pair .ensures)
+returns c =
+    let b4 = c .before .before .before .before in
+    header-put _ _ _ _ _ _ (omega arith) (b4 .before .before .put-number .ensures) (c .before .before .put-pair .ensures)
 
 pub put-header-spec : {M : Type 1} → statement M
 put-header-spec =

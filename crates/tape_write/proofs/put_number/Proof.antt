@@ -42,7 +42,9 @@ same-length : tie.Need-same-length
 same-length c = search needs
 
 returns : tie.Need-returns
-returns c = rw (c .before .before .before .low .ensures, c .before .before .low2 .ensures, c .before .low3 .ensures, c .low4 .ensures) (four-stores _ _ _ _ _ _ (omega arith))
+returns c =
+    rw (c .before .before .before .low .ensures, c .before .before .low2 .ensures, c .before .low3 .ensures, c .low4 .ensures)
+    (four-stores _ _ _ _ _ _ (omega arith))
 
 pub put-number-spec : {M : Type 1} → statement M
 put-number-spec =

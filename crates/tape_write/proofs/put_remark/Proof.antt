@@ -7,22 +7,45 @@ use Rattle.tape_write.proofs.put_remark.Statement.{statement}
 use Rattle.tape_write.proofs.put_remark.Tie as tie
 
 returns : tie.Need-returns
-returns c = no-remark-put _ (c .before .before .before .args .given) (now (c .before .before .before .args .text)) (not-true (c .before .before .before .args .given) (c .if1 .taken))
+returns c =
+    no-remark-put _ (c .before .before .before .args .given) (now (c .before .before .before .args .text))
+    (not-true (c .before .before .before .args .given) (c .if1 .taken))
 
 cast-put-header : tie.Need-cast-put-header
-cast-put-header c = let g = not-false (c .before .before .before .before .args .given) (c .before .if1 .left) in let e = remark-size (c .before .before .before .before .args .given) (now (c .before .before .before .before .args .text)) g in let l = remark-short (c .before .before .before .before .args .given) (now (c .before .before .before .before .args .text)) g (c .before .before .before .before .pre .0) in omega arith
+cast-put-header c =
+    let b4 = c .before .before .before .before in
+    let g = not-false (b4 .args .given) (c .before .if1 .left) in
+    let e = remark-size (b4 .args .given) (now (b4 .args .text)) g in
+    let l = remark-short (b4 .args .given) (now (b4 .args .text)) g (b4 .pre .0) in
+    omega arith
 
 put-header-requires : tie.Need-put-header-requires
-put-header-requires c κs = let g = not-false (c .before .before .before .before .args .given) (c .before .if1 .left) in let e = remark-size (c .before .before .before .before .args .given) (now (c .before .before .before .before .args .text)) g in let l = remark-short (c .before .before .before .before .args .given) (now (c .before .before .before .before .args .text)) g (c .before .before .before .before .pre .0) in omega (arith, c .before .before .before .before .pre .1)
+put-header-requires c κs =
+    let b4 = c .before .before .before .before in
+    let g = not-false (b4 .args .given) (c .before .if1 .left) in
+    let e = remark-size (b4 .args .given) (now (b4 .args .text)) g in
+    let l = remark-short (b4 .args .given) (now (b4 .args .text)) g (b4 .pre .0) in
+    omega (arith, b4 .pre .1)
 
 put-text-requires : tie.Need-put-text-requires
-put-text-requires c κs = let g = not-false (c .before .before .before .before .before .before .before .before .args .given) (c .before .before .before .before .before .if1 .left) in let e = remark-size (c .before .before .before .before .before .before .before .before .args .given) (now (c .before .before .before .before .before .before .before .before .args .text)) g in let l = remark-short (c .before .before .before .before .before .before .before .before .args .given) (now (c .before .before .before .before .before .before .before .before .args .text)) g (c .before .before .before .before .before .before .before .before .pre .0) in omega (arith, c .before .before .before .before .before .before .before .before .pre .1)
+put-text-requires c κs =
+    let b4 = c .before .before .before .before in
+    let b8 = b4 .before .before .before .before in
+    let g = not-false (b8 .args .given) (b4 .before .if1 .left) in
+    let e = remark-size (b8 .args .given) (now (b8 .args .text)) g in
+    let l = remark-short (b8 .args .given) (now (b8 .args .text)) g (b8 .pre .0) in
+    omega (arith, b8 .pre .1)
 
 same-length : tie.Need-same-length
 same-length c = search needs
 
 returns-2 : tie.Need-returns-2
-returns-2 c = remark-put _ _ _ (c .before .before .before .before .before .before .before .before .before .before .before .args .given) (now (c .before .before .before .before .before .before .before .before .before .before .before .args .text)) (not-false (c .before .before .before .before .before .before .before .before .before .before .before .args .given) (c .before .before .before .before .before .before .before .before .if1 .left)) (c .before .before .before .before .before .before .put-header .ensures) (c .before .before .put-text .ensures)
+returns-2 c =
+    let b4 = c .before .before .before .before in
+    let b8 = b4 .before .before .before .before in
+    let a = b8 .before .before .before in
+    remark-put _ _ _ (a .args .given) (now (a .args .text)) (not-false (a .args .given) (b8 .if1 .left))
+    (b4 .before .before .put-header .ensures) (c .before .before .put-text .ensures)
 
 pub put-remark-spec : {M : Type 1} → statement M
 put-remark-spec =

@@ -1,6 +1,5 @@
 use native.Mathlib.Omega.{arith}
 use lib.ListN.{length-set}
-use Rattle.tape_write.specs.Steps.{stateBytes}
 use Rattle.tape_write.proofs.Puts.{four-stores}
 use borrow.Author.Needs.{needs}
 use Rattle.tape_write.proofs.put_state.Statement.{statement}
@@ -40,7 +39,6 @@ same-length : tie.Need-same-length
 same-length c = search needs
 
 returns : tie.Need-returns
-unfolding stateBytes
 returns c = rw (c .before .before .low .ensures, c .before .low2 .ensures, c .flags-byte .ensures) (four-stores _ _ _ _ _ _ (omega arith))
 
 pub put-state-spec : {M : Type 1} → statement M

@@ -25,19 +25,33 @@ add-put-number : tie.Need-add-put-number
 add-put-number c = search needs
 
 put-number-requires : tie.Need-put-number-requires
-put-number-requires c κs = let e = size-some _ (c .before .before .before .before .before .if1 .left) in omega (arith, e, c .before .before .before .before .before .before .before .before .pre)
+put-number-requires c κs =
+    let b4 = c .before .before .before .before in
+    let b8 = b4 .before .before .before .before in
+    let e = size-some _ (b4 .before .if1 .left) in
+    omega (arith, e, b8 .pre)
 
 add-put-cells : tie.Need-add-put-cells
 add-put-cells c = search needs
 
 put-cells-requires : tie.Need-put-cells-requires
-put-cells-requires c κs = let e = size-some _ (c .before .before .before .before .before .before .before .before .before .if1 .left) in omega (arith, e, c .before .before .before .before .before .before .before .before .before .before .before .before .pre)
+put-cells-requires c κs =
+    let b4 = c .before .before .before .before in
+    let b8 = b4 .before .before .before .before in
+    let b12 = b8 .before .before .before .before in
+    let e = size-some _ (b8 .before .if1 .left) in
+    omega (arith, e, b12 .pre)
 
 same-length : tie.Need-same-length
 same-length c = search needs
 
 returns-2 : tie.Need-returns-2
-returns-2 c = stretch-put _ _ _ _ _ _ _ _ (c .before .before .before .before .before .before .before .before .before .before .before .before .if1 .left) (omega (arith, c .before .before .before .before .before .before .before .before .before .before .before .before .before .before .before .pre)) refl (c .before .before .before .before .before .before .before .before .before .before .put-header .ensures) (c .before .before .before .before .before .before .put-number .ensures) (c .before .before .put-cells .ensures)
+returns-2 c =
+    let b4 = c .before .before .before .before in
+    let b8 = b4 .before .before .before .before in
+    let b12 = b8 .before .before .before .before in
+    stretch-put _ _ _ _ _ _ _ _ (b12 .if1 .left) (omega (arith, b12 .before .before .before .pre)) refl
+    (b8 .before .before .put-header .ensures) (b4 .before .before .put-number .ensures) (c .before .before .put-cells .ensures)
 
 pub put-stretch-spec : {M : Type 1} → statement M
 put-stretch-spec =

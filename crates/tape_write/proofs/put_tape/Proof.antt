@@ -8,28 +8,62 @@ use Rattle.tape_write.proofs.put_tape.Statement.{statement}
 use Rattle.tape_write.proofs.put_tape.Tie as tie
 
 put-remark-requires : tie.Need-put-remark-requires
-put-remark-requires c κs = let e = length-tape (now (c .before .before .before .before .args .store)) (c .before .before .before .before .args .c) (remarkOf (c .before .before .before .before .args .given) (now (c .before .before .before .before .args .text))) in (c .before .before .before .before .pre .1, omega (arith, c .before .before .before .before .pre .2))
+put-remark-requires c κs =
+    let b4 = c .before .before .before .before in
+    let e = length-tape (now (b4 .args .store)) (b4 .args .c) (remarkOf (b4 .args .given) (now (b4 .args .text))) in
+    (b4 .pre .1, omega (arith, b4 .pre .2))
 
 remark-size-requires : tie.Need-remark-size-requires
 remark-size-requires c κs = search needs
 
 put-blocks-requires : tie.Need-put-blocks-requires
-put-blocks-requires c κs = let e = length-tape (now (c .before .before .before .before .before .before .before .before .before .args .store)) (c .before .before .before .before .before .before .before .before .before .args .c) (remarkOf (c .before .before .before .before .before .before .before .before .before .args .given) (now (c .before .before .before .before .before .before .before .before .before .args .text))) in (c .before .before .before .before .before .before .before .before .before .pre .0, omega (arith, c .before .before .before .before .before .before .before .before .before .pre .2, c .before .remark-size .ensures))
+put-blocks-requires c κs =
+    let b4 = c .before .before .before .before in
+    let b8 = b4 .before .before .before .before in
+    let a = b8 .before in
+    let e = length-tape (now (a .args .store)) (a .args .c) (remarkOf (a .args .given) (now (a .args .text))) in
+    (a .pre .0, omega (arith, a .pre .2, c .before .remark-size .ensures))
 
 put-control-requires : tie.Need-put-control-requires
-put-control-requires c κs = let e = length-tape (now (c .before .before .before .before .before .before .before .before .before .before .before .before .before .args .store)) (c .before .before .before .before .before .before .before .before .before .before .before .before .before .args .c) (remarkOf (c .before .before .before .before .before .before .before .before .before .before .before .before .before .args .given) (now (c .before .before .before .before .before .before .before .before .before .before .before .before .before .args .text))) in omega (arith, c .before .before .before .before .before .before .before .before .before .before .before .before .before .pre .2, c .before .before .before .before .before .remark-size .ensures, c .before .before .before .put-blocks .ensures .0)
+put-control-requires c κs =
+    let b4 = c .before .before .before .before in
+    let b8 = b4 .before .before .before .before in
+    let b12 = b8 .before .before .before .before in
+    let a = b12 .before in
+    let e = length-tape (now (a .args .store)) (a .args .c) (remarkOf (a .args .given) (now (a .args .text))) in
+    omega (arith, a .pre .2, b4 .before .remark-size .ensures, c .before .before .before .put-blocks .ensures .0)
 
 add-put-header : tie.Need-add-put-header
-add-put-header c = let e = length-tape (now (c .before .before .before .before .before .before .before .before .before .before .before .before .before .before .before .before .before .args .store)) (c .before .before .before .before .before .before .before .before .before .before .before .before .before .before .before .before .before .args .c) (remarkOf (c .before .before .before .before .before .before .before .before .before .before .before .before .before .before .before .before .before .args .given) (now (c .before .before .before .before .before .before .before .before .before .before .before .before .before .before .before .before .before .args .text))) in omega (arith, c .before .before .before .before .before .before .before .before .before .before .before .before .before .before .before .before .before .pre .2, c .before .before .before .before .before .before .before .before .before .remark-size .ensures, c .before .before .before .before .before .before .before .put-blocks .ensures .0)
+add-put-header c =
+    let b4 = c .before .before .before .before in
+    let b8 = b4 .before .before .before .before in
+    let b12 = b8 .before .before .before .before in
+    let b16 = b12 .before .before .before .before in
+    let a = b16 .before in
+    let e = length-tape (now (a .args .store)) (a .args .c) (remarkOf (a .args .given) (now (a .args .text))) in
+    omega (arith, a .pre .2, b8 .before .remark-size .ensures, b4 .before .before .before .put-blocks .ensures .0)
 
 put-header-requires : tie.Need-put-header-requires
-put-header-requires c κs = let e = length-tape (now (c .before .before .before .before .before .before .before .before .before .before .before .before .before .before .before .before .before .args .store)) (c .before .before .before .before .before .before .before .before .before .before .before .before .before .before .before .before .before .args .c) (remarkOf (c .before .before .before .before .before .before .before .before .before .before .before .before .before .before .before .before .before .args .given) (now (c .before .before .before .before .before .before .before .before .before .before .before .before .before .before .before .before .before .args .text))) in omega (arith, c .before .before .before .before .before .before .before .before .before .before .before .before .before .before .before .before .before .pre .2, c .before .before .before .before .before .before .before .before .before .remark-size .ensures, c .before .before .before .before .before .before .before .put-blocks .ensures .0)
+put-header-requires c κs =
+    let b4 = c .before .before .before .before in
+    let b8 = b4 .before .before .before .before in
+    let b12 = b8 .before .before .before .before in
+    let b16 = b12 .before .before .before .before in
+    let a = b16 .before in
+    let e = length-tape (now (a .args .store)) (a .args .c) (remarkOf (a .args .given) (now (a .args .text))) in
+    omega (arith, a .pre .2, b8 .before .remark-size .ensures, b4 .before .before .before .put-blocks .ensures .0)
 
 same-length : tie.Need-same-length
 same-length c = search needs
 
 returns : tie.Need-returns
-returns c = parts-put _ _ _ _ _ _ _ _ _ _ (c .before .before .before .before .before .before .before .before .before .before .before .before .before .before .before .put-remark .ensures) (c .before .before .before .before .before .before .before .before .before .before .before .before .remark-size .ensures) (c .before .before .before .before .before .before .before .before .before .before .put-blocks .ensures .1) (c .before .before .before .before .before .before .before .before .before .before .put-blocks .ensures .0) (c .before .before .before .before .before .before .put-control .ensures) (c .before .before .put-header .ensures)
+returns c =
+    let b4 = c .before .before .before .before in
+    let b8 = b4 .before .before .before .before in
+    let b12 = b8 .before .before .before .before in
+    parts-put _ _ _ _ _ _ _ _ _ _ (b12 .before .before .before .put-remark .ensures) (b12 .remark-size .ensures)
+    (b8 .before .before .put-blocks .ensures .1) (b8 .before .before .put-blocks .ensures .0) (b4 .before .before .put-control .ensures)
+    (c .before .before .put-header .ensures)
 
 pub put-tape-spec : {M : Type 1} → statement M
 put-tape-spec =

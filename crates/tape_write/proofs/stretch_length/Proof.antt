@@ -10,7 +10,8 @@ use Rattle.tape_write.proofs.stretch_length.Statement.{statement}
 use Rattle.tape_write.proofs.stretch_length.Tie as tie
 
 abbrev Inv-loop : tie.InvT-loop
-Inv-loop store first end₀ end = (first ≤ end) × (end ≤ length store) × (length (stretch (drop first store)) ≡ end - first + length (stretch (drop end store)))
+Inv-loop store first end₀ end =
+    (first ≤ end) × (end ≤ length store) × (length (stretch (drop first store)) ≡ end - first + length (stretch (drop end store)))
 
 abbrev μ-loop : tie.MeasureT-loop
 μ-loop store first end₀ end = length store - end

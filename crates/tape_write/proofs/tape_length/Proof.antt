@@ -14,13 +14,22 @@ blocks-length-requires : tie.Need-blocks-length-requires
 blocks-length-requires c κs = search needs
 
 add-result : tie.Need-add-result
-add-result c = let m = remark-small _ (c .before .before .before .before .pre .1) in omega (arith, c .blocks-length .ensures, c .before .remark-size .ensures)
+add-result c =
+    let b4 = c .before .before .before .before in
+    let m = remark-small _ (b4 .pre .1) in
+    omega (arith, c .blocks-length .ensures, c .before .remark-size .ensures)
 
 add-result-2 : tie.Need-add-result-2
-add-result-2 c = let m = remark-small _ (c .before .before .before .before .pre .1) in omega (arith, c .blocks-length .ensures, c .before .remark-size .ensures)
+add-result-2 c =
+    let b4 = c .before .before .before .before in
+    let m = remark-small _ (b4 .pre .1) in
+    omega (arith, c .blocks-length .ensures, c .before .remark-size .ensures)
 
 returns : tie.Need-returns
-returns c = let e = length-tape (now (c .before .before .before .before .args .store)) (c .before .before .before .before .args .c) (remarkOf (c .before .before .before .before .args .given) (now (c .before .before .before .before .args .text))) in omega (arith, c .blocks-length .ensures .0, c .before .remark-size .ensures)
+returns c =
+    let b4 = c .before .before .before .before in
+    let e = length-tape (now (b4 .args .store)) (b4 .args .c) (remarkOf (b4 .args .given) (now (b4 .args .text))) in
+    omega (arith, c .blocks-length .ensures .0, c .before .remark-size .ensures)
 
 pub tape-length-spec : {M : Type 1} → statement M
 tape-length-spec =

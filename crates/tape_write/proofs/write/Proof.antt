@@ -24,10 +24,15 @@ same-length : tie.Need-same-length
 same-length c = search needs
 
 returns : tie.Need-returns
-returns c = machine-written _ _ _ _ _ (c .before .before .before .before .before .before .judge-machine .ensures) _ _ (c .before .before .before .before .enum-told .given .1) (c .before .before .write-machine .ensures)
+returns c =
+    let b4 = c .before .before .before .before in
+    machine-written _ _ _ _ _ (b4 .before .before .judge-machine .ensures) _ _ (b4 .enum-told .given .1)
+    (c .before .before .write-machine .ensures)
 
 returns-2 : tie.Need-returns-2
-returns-2 c = let b4 = c .before .before .before .before in rw (c .refused .ensures) (machine-refused _ _ _ _ _ (b4 .judge-machine .ensures) _ (c .before .before .v .given .1))
+returns-2 c =
+    let b4 = c .before .before .before .before in
+    rw (c .refused .ensures) (machine-refused _ _ _ _ _ (b4 .judge-machine .ensures) _ (c .before .before .v .given .1))
 
 pub write-spec : {M : Type 1} → statement M
 write-spec =

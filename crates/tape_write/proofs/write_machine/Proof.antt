@@ -18,16 +18,19 @@ returns c =
     (remark-long _ _ _ _ (sym (c .before .before .remark-fits .ensures) ∙ not-true (c .before .before .remark-fits .result) (c .before .if1 .taken)))
 
 tape-length-requires : tie.Need-tape-length-requires
-tape-length-requires c κs = (c .before .before .before .before .before .pre, sym (c .before .remark-fits .ensures) ∙ not-false (c .before .remark-fits .result) (c .if1 .left))
+tape-length-requires c κs =
+    let b4 = c .before .before .before .before in
+    (b4 .before .pre, sym (c .before .remark-fits .ensures) ∙ not-false (c .before .remark-fits .result) (c .if1 .left))
 
 refused-requires-2 : tie.Need-refused-requires-2
 refused-requires-2 c κs = search needs
 
 returns-2 : tie.Need-returns-2
 returns-2 c =
-    let r = c .before .before .before .before .remark-fits in
-    rw (c .refused2 .ensures)
-    (tape-long _ _ _ _ _ (c .before .before .tape-length .ensures) (sym (r .ensures) ∙ not-false (r .result) (c .before .before .before .if1 .left)) (c .before .if2 .taken))
+    let b4 = c .before .before .before .before in
+    let r = b4 .remark-fits in
+    let f = sym (r .ensures) ∙ not-false (r .result) (c .before .before .before .if1 .left) in
+    rw (c .refused2 .ensures) (tape-long _ _ _ _ _ (c .before .before .tape-length .ensures) f (c .before .if2 .taken))
 
 refused-requires-3 : tie.Need-refused-requires-3
 refused-requires-3 c κs = search needs
@@ -36,14 +39,15 @@ returns-3 : tie.Need-returns-3
 returns-3 c =
     let b4 = c .before .before .before .before in
     let r = b4 .before .remark-fits in
-    rw (c .refused3 .ensures)
-    (buffer-short _ _ _ _ _ (c .before .before .before .tape-length .ensures) (sym (r .ensures) ∙ not-false (r .result) (b4 .if1 .left)) (c .before .before .if2 .left) (c .before .if3 .taken))
+    let f = sym (r .ensures) ∙ not-false (r .result) (b4 .if1 .left) in
+    rw (c .refused3 .ensures) (buffer-short _ _ _ _ _ (c .before .before .before .tape-length .ensures) f (c .before .before .if2 .left) (c .before .if3 .taken))
 
 put-tape-requires : tie.Need-put-tape-requires
 put-tape-requires c κs =
     let b4 = c .before .before .before .before in
     let r = b4 .before .remark-fits in
-    (b4 .before .before .before .before .before .pre, sym (r .ensures) ∙ not-false (r .result) (b4 .if1 .left), omega (arith, c .before .before .before .tape-length .ensures))
+    let f = sym (r .ensures) ∙ not-false (r .result) (b4 .if1 .left) in
+    (b4 .before .before .before .before .before .pre, f, omega (arith, c .before .before .before .tape-length .ensures))
 
 same-length : tie.Need-same-length
 same-length c = search needs
@@ -53,7 +57,8 @@ returns-4 c =
     let b4 = c .before .before .before .before in
     let b8 = b4 .before .before .before .before in
     let r = b8 .remark-fits in
-    written _ _ _ _ _ (b4 .before .before .tape-length .ensures) (sym (r .ensures) ∙ not-false (r .result) (b4 .before .before .before .if1 .left)) _ (b4 .before .if2 .left) (b4 .if3 .left) (c .before .before .put-tape .ensures)
+    written _ _ _ _ _ (b4 .before .before .tape-length .ensures) (sym (r .ensures) ∙ not-false (r .result) (b4 .before .before .before .if1 .left))
+    _ (b4 .before .if2 .left) (b4 .if3 .left) (c .before .before .put-tape .ensures)
 
 pub write-machine-spec : {M : Type 1} → statement M
 write-machine-spec =

@@ -8,13 +8,17 @@ use Rattle.tape_write.proofs.zero_cells.Statement.{statement}
 use Rattle.tape_write.proofs.zero_cells.Tie as tie
 
 returns : tie.Need-returns
-returns c = let a = c .before .before in (blocks-zero (now (a .args .store)) (a .args .i) (a .pre .0) (a .pre .1), (omega arith, omega (arith, a .pre)))
+returns c =
+    let a = c .before .before in
+    (blocks-zero (now (a .args .store)) (a .args .i) (a .pre .0) (a .pre .1), (omega arith, omega (arith, a .pre)))
 
 sub-if2 : tie.Need-sub-if2
 sub-if2 c = search needs
 
 returns-2 : tie.Need-returns-2
-returns-2 c = let a = c .before .before .before in (blocks-zero (now (a .args .store)) (a .args .i) (a .pre .0) (a .pre .1), (omega arith, omega (arith, a .pre)))
+returns-2 c =
+    let a = c .before .before .before in
+    (blocks-zero (now (a .args .store)) (a .args .i) (a .pre .0) (a .pre .1), (omega arith, omega (arith, a .pre)))
 
 add-all-zero : tie.Need-add-all-zero
 add-all-zero c = search needs
@@ -41,7 +45,10 @@ returns-3 c =
     (blocks-zeros (now (a .args .store)) (a .args .i) 256 (sym e ∙ c .if3 .taken), (omega arith, omega (arith, a .pre)))
 
 returns-4 : tie.Need-returns-4
-returns-4 c = let a = c .before .before .before .before .before .before in (blocks-zero (now (a .args .store)) (a .args .i) (a .pre .0) (a .pre .1), (omega arith, omega (arith, a .pre)))
+returns-4 c =
+    let b4 = c .before .before .before .before in
+    let a = b4 .before .before in
+    (blocks-zero (now (a .args .store)) (a .args .i) (a .pre .0) (a .pre .1), (omega arith, omega (arith, a .pre)))
 
 pub zero-cells-spec : {M : Type 1} → statement M
 zero-cells-spec =
