@@ -1,13 +1,13 @@
 -- The two passes over the store: one stretch, and the zero that ends it, in each turn. Assumes nothing.
 use Prim.Native.Nat.{ℕ, zero, suc, _+_, _-_, _*_, _≤_, _<_}
 use mathlib.Core.Path.{_≡_, refl, sym, ap, _∙_}
-use mathlib.Core.Bool.{true, false, true≢false}
+use mathlib.Core.Bool.{Bool, true, false, true≢false}
 use mathlib.Core.List.{List, [], _∷_, _++_}
 use native.Mathlib.Numerals.{add-one}
 use native.Mathlib.Omega.{arith}
 use native.Mathlib.Nat.{add-sub-cancel-left}
-use borrow.Author.Tests.{ne-eqb}
-use lib.Dec.{eqb·suc-zero}
+use borrow.Author.Tests.{ne-eqb, leb-true, leb-false}
+use lib.Dec.{leb, eqb·suc-zero}
 use lib.ListN.{length, take, drop, getD, length-append, length-drop, drop-of-length-le}
 use lib.Seq.{drop-cons, drop-drop, length-take-le}
 use Rattle.definition_tape.specs.Blocks.{Block, stretch, blocksFrom, storeBlocks}
@@ -48,6 +48,13 @@ blocks-all s = refl
 pub blocks-none : (s : List ℕ) (i : ℕ) → length s ≤ i → blocksAfter s i ≡ []
 unfolding blocksAfter blocksFrom blocksBytes
 blocks-none s i h = rw (drop-of-length-le s h)
+
+pub blocks-left : (s : List ℕ) (i : ℕ) → 0 < length (blocksAfter s i) → i < length s
+blocks-left s i h = by (leb (length s) i) refl
+  where
+    by : (b : Bool) → leb (length s) i ≡ b → i < length s
+    by true e = let z = ap length (blocks-none s i (leb-true (length s) i e)) in let no : ⊥ = omega arith in absurd no
+    by false e = leb-false (length s) i e
 
 step : (i : ℕ) (q : List ℕ) → blocksBytes (blocksFrom false i q) ≡ stretchBytes i (stretch q) ++ blocksBytes (blocksFrom false (i + (length (stretch q) + 1)) (drop (length (stretch q) + 1) q))
 unfolding stretch blocksFrom blocksBytes stretchBytes
@@ -132,5 +139,6 @@ size-most (suc k) = rw (eqb·suc-zero k) (omega arith)
 pub length-done : (s : List ℕ) (i t n : ℕ) → length s ≤ i → t + length (blocksAfter s i) ≡ n → t ≡ n
 length-done s i t n h e = let z = ap length (blocks-none s i h) in omega arith
 
-pub put-done : (s o w : List ℕ) (i at : ℕ) → length s ≤ i → put o at (blocksAfter s i) ≡ w → o ≡ w
-put-done s o w i at h e = sym (put-none o at) ∙ rw (blocks-none s i h) at e
+pub put-done : (o w bs : List ℕ) (at : ℕ) → length bs ≡ 0 → put o at bs ≡ w → o ≡ w
+put-done o w [] at h e = sym (put-none o at) ∙ e
+put-done o w (b ∷ bs) at h e = let no : ⊥ = omega arith in absurd no

@@ -155,15 +155,14 @@ fn blocks_length(store: &[u32]) -> usize
     total
 }
 
-// The blocks of the store; the answer is the place after them.
-fn put_blocks(out: &mut [u8], from: usize, store: &[u32]) -> usize
-    requires { ⌜ (length (now store) ≤ mostCells) × (from + length (blocksBytes (storeBlocks (now store))) ≤ length (now out)) ⌝ }
-    ensures place { λ r. ⌜ r ≡ from + length (blocksBytes (storeBlocks (now (store .entry)))) ⌝ }
-    ensures bytes { λ _. ⌜ now (out .exit) ≡ put (now (out .entry)) from (blocksBytes (storeBlocks (now (store .entry)))) ⌝ }
+// The blocks of the store, whose bytes go up to the place `to`: no cell behind the last block is looked at.
+fn put_blocks(out: &mut [u8], from: usize, to: usize, store: &[u32])
+    requires { ⌜ (length (now store) ≤ mostCells) × (to ≡ from + length (blocksBytes (storeBlocks (now store)))) × (to ≤ length (now out)) ⌝ }
+    ensures { λ _. ⌜ now (out .exit) ≡ put (now (out .entry)) from (blocksBytes (storeBlocks (now (store .entry)))) ⌝ }
 {
     let mut at = from;
     let mut i: usize = 0;
-    while i < store.len() {
+    while at < to {
         if store[i] == 0 {
             i += zero_cells(store, i);
         } else {
@@ -175,7 +174,6 @@ fn put_blocks(out: &mut [u8], from: usize, store: &[u32]) -> usize
             i += k + 1;
         }
     }
-    at
 }
 
 // ---- the control record
@@ -268,13 +266,15 @@ fn tape_length(store: &[u32], c: Control, given: bool, text: &[u8]) -> usize
     remark_size(given, text) + blocks_length(store) + 32
 }
 
-fn put_tape(out: &mut [u8], store: &[u32], c: Control, given: bool, text: &[u8])
-    requires { ⌜ (length (now store) ≤ mostCells) × (remarkFits (remarkOf given (now text)) ≡ true) × (length (tapeOf (now store) c (remarkOf given (now text))) ≤ length (now out)) ⌝ }
+// The tape, of n bytes.
+fn put_tape(out: &mut [u8], n: usize, store: &[u32], c: Control, given: bool, text: &[u8])
+    requires { ⌜ (length (now store) ≤ mostCells) × (remarkFits (remarkOf given (now text)) ≡ true) × (n ≡ length (tapeOf (now store) c (remarkOf given (now text)))) × (n ≤ length (now out)) ⌝ }
     ensures { λ _. ⌜ now (out .exit) ≡ put (now (out .entry)) 0 (tapeOf (now (store .entry)) c (remarkOf given (now (text .entry)))) ⌝ }
 {
     put_remark(out, given, text);
     let at = remark_size(given, text);
-    let end = put_blocks(out, at, store);
+    let end = n - 32;
+    put_blocks(out, at, end, store);
     put_control(out, end, c);
     put_header(out, end + 26, 3, 0);
 }
@@ -303,7 +303,7 @@ fn write_machine(store: &[u32], c: Control, given: bool, text: &[u8], out: &mut 
     if n > out.len() {
         return refused(Refusal::BufferLength);
     }
-    put_tape(out, store, c, given, text);
+    put_tape(out, n, store, c, given, text);
     Written {
         length: n,
         verdict: Verdict::Accepted,

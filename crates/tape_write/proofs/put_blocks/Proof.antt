@@ -6,19 +6,19 @@ use lib.ListN.{length}
 use Rattle.definition_tape.specs.Blocks.{storeBlocks}
 use Rattle.definition_tape.specs.Bytes.{blocksBytes}
 use Rattle.tape_write.specs.Steps.{put, blocksAfter}
-use Rattle.tape_write.proofs.Passes.{blocks-all, size-step, put-step, part-fits, length-done, put-done}
+use Rattle.tape_write.proofs.Passes.{blocks-all, blocks-left, size-step, put-step, part-fits, put-done}
 use borrow.Author.Needs.{needs}
 use Rattle.tape_write.proofs.put_blocks.Statement.{statement}
 use Rattle.tape_write.proofs.put_blocks.Tie as tie
 
 abbrev Inv-loop : tie.InvT-loop
-Inv-loop out₀ from store at₀ i₀ out at i =
+Inv-loop out₀ from to store at₀ i₀ out at i =
     (i ≤ length store + 1) × (length out ≡ length out₀)
     × (at + length (blocksAfter store i) ≡ from + length (blocksBytes (storeBlocks store)))
     × (put out at (blocksAfter store i) ≡ put out₀ from (blocksBytes (storeBlocks store)))
 
 abbrev μ-loop : tie.MeasureT-loop
-μ-loop out₀ from store at₀ i₀ out at i = length store + 1 - i
+μ-loop out₀ from to store at₀ i₀ out at i = length store + 1 - i
 
 loop-holds : tie.Need-loop-holds Inv-loop μ-loop
 loop-holds c = rw (blocks-all (now (c .before .before .args .store))) (omega arith, refl, refl, refl)
@@ -27,10 +27,17 @@ mul-if1 : tie.Need-mul-if1 Inv-loop μ-loop
 mul-if1 c = search needs
 
 shared-slice-read-if1 : tie.Need-shared-slice-read-if1 Inv-loop μ-loop
-shared-slice-read-if1 c = search needs
+shared-slice-read-if1 c =
+    let b4 = c .before .before .before .before in
+    let l = c .before .before .loop in
+    blocks-left (now (b4 .before .args .store)) (l .i) (omega (arith, l .inv, b4 .before .pre, c .before .loop-test .taken))
 
 zero-cells-requires : tie.Need-zero-cells-requires Inv-loop μ-loop
-zero-cells-requires c κs = search needs
+zero-cells-requires c κs =
+    let b4 = c .before .before .before .before in
+    let a = b4 .before .before in
+    let l = c .before .before .before .loop in
+    (blocks-left (now (a .args .store)) (l .i) (omega (arith, l .inv, a .pre, c .before .before .loop-test .taken)), c .if1 .taken)
 
 add-i : tie.Need-add-i Inv-loop μ-loop
 add-i c = omega (arith, c .zero-cells .ensures)
@@ -45,7 +52,12 @@ loop-again c =
     (omega arith, l .inv .1, rw (z .0) (l .inv .2), rw (z .0) (l .inv .3))
 
 stretch-length-requires : tie.Need-stretch-length-requires Inv-loop μ-loop
-stretch-length-requires c κs = omega arith
+stretch-length-requires c κs =
+    let b4 = c .before .before .before .before in
+    let a = b4 .before .before in
+    let l = c .before .before .before .loop in
+    let h = blocks-left (now (a .args .store)) (l .i) (omega (arith, l .inv, a .pre, c .before .before .loop-test .taken)) in
+    omega arith
 
 add-end : tie.Need-add-end Inv-loop μ-loop
 add-end c = omega (arith, c .stretch-length .ensures)
@@ -123,17 +135,17 @@ loop-again-2 c =
     let e = c .block-size .ensures in
     let z = size-step s (l .i) (k .result) (k .ensures .0) (k .ensures .1) in
     let b : l .at ≤ length (l .out) = omega (arith, l .inv, b12 .before .pre) in
-    (omega (arith, k .ensures), p .kept .0 ∙ l .inv .1, omega (arith, l .inv), rw e (put-step s (l .i) (k .result) (k .ensures .0) (k .ensures .1) (l .out) _ (l .at) b (p .ensures) ∙ l .inv .3))
+    let w = put-step s (l .i) (k .result) (k .ensures .0) (k .ensures .1) (l .out) _ (l .at) b (p .ensures) in
+    (omega (arith, k .ensures), p .kept .0 ∙ l .inv .1, omega (arith, l .inv), rw e (w ∙ l .inv .3))
 
 same-length : tie.Need-same-length Inv-loop μ-loop
 same-length c = c .before .loop .inv .1
 
 returns : tie.Need-returns Inv-loop μ-loop
 returns c =
-    let s = now (c .before .before .before .before .args .store) in
     let l = c .before .loop in
-    let h : length s ≤ l .i = omega arith in
-    (length-done s (l .i) (l .at) _ h (l .inv .2), put-done s (l .out) _ (l .i) (l .at) h (l .inv .3))
+    put-done (l .out) _ (blocksAfter (now (c .before .before .before .before .args .store)) (l .i)) (l .at)
+    (omega (arith, l .inv, c .loop-test .left, c .before .before .before .before .pre)) (l .inv .3)
 
 pub put-blocks-spec : {M : Type 1} → statement M
 put-blocks-spec =

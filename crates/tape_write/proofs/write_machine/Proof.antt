@@ -47,7 +47,7 @@ put-tape-requires c κs =
     let b4 = c .before .before .before .before in
     let r = b4 .before .remark-fits in
     let f = sym (r .ensures) ∙ not-false (r .result) (b4 .if1 .left) in
-    (b4 .before .before .before .before .before .pre, f, omega (arith, c .before .before .before .tape-length .ensures))
+    (b4 .before .before .before .before .before .pre, f, c .before .before .before .tape-length .ensures, omega arith)
 
 same-length : tie.Need-same-length
 same-length c = search needs
