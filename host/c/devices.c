@@ -1,7 +1,6 @@
 /* Reader, typewriter and autoload key through the C calls: the bootstrap of
  * section 11.5 loads a program that types a text. Prints what differs. */
-#include "rc4000.h"
-#include <stdio.h>
+#include "expect.h"
 #include <string.h>
 
 enum { CELLS = 64, START = 16, SPACE = 16, KEPT = 170, LARGEST = 65535 };
@@ -11,18 +10,10 @@ enum { TYPE = 1 * 64 + 3, READ = 2, SENSE_0 = 0 }; /* device and command of IO *
 static const char text[] = "RC 4000\n";
 static const rc4000_control power_on = {.pr = 128, .monitor = 1, .reset = 1};
 static const rc4000_devices zero = {0, 0};
-static int differences;
 
 /* The reader's characters. */
 static uint8_t tape[512];
 static size_t length;
-
-static void expect(bool holds, const char *what) {
-    if (!holds) {
-        printf("%s\n", what);
-        differences++;
-    }
-}
 
 static uint32_t instruction(uint32_t code, uint32_t address) {
     return code << 18 | address;
@@ -50,11 +41,6 @@ static void punch_program(void) {
     punch(instruction(AW, address));
     punch(instruction(AW, 0));
     punch(instruction(JL, START));
-}
-
-static bool same(rc4000_control a, rc4000_control b) {
-    return a.ic == b.ic && a.ir == b.ir && a.im == b.im && a.pending == b.pending && a.pr == b.pr &&
-           a.ex == b.ex && a.monitor == b.monitor && a.enabled == b.enabled && a.reset == b.reset;
 }
 
 static bool registers(rc4000_devices devices, uint32_t reader, uint32_t typewriter) {

@@ -1,8 +1,7 @@
 /* Every byte as each flag of the control record, through every call that takes
  * one: what is not 0 or 1 is refused with 3, after 1 and 2, and comes back as
  * given. Prints what differs. */
-#include "rc4000.h"
-#include <stdio.h>
+#include "expect.h"
 #include <string.h>
 
 enum { CELLS = 8, FLAGS = 3 };
@@ -10,13 +9,10 @@ enum { CELLS = 8, FLAGS = 3 };
 static const uint8_t tape[32] = {20, 0, 0, 0, 2, 0, [22] = 128, 0, 5, 0, 0, 0, 0, 0, 3, 0};
 static const rc4000_control tapes_record = {.pr = 128, .monitor = 1, .reset = 1};
 static const uint8_t wrong[5] = {1, 2, 3, 4, 64}; /* the last is no character */
-static int differences;
 
-static void expect(bool holds, const char *what, int flag, unsigned byte) {
-    if (!holds) {
-        printf("%s: flag %d, byte %u\n", what, flag, byte);
-        differences++;
-    }
+static void expect_for(bool holds, const char *what, int flag, unsigned byte) {
+    if (!holds) printf("flag %d, byte %u: ", flag, byte);
+    expect(holds, what);
 }
 
 /* Monitor mode, one flag set to a byte. */
@@ -27,11 +23,6 @@ static rc4000_control with_flag(int flag, unsigned byte) {
     return control;
 }
 
-static bool same(rc4000_control a, rc4000_control b) {
-    return a.ic == b.ic && a.ir == b.ir && a.im == b.im && a.pending == b.pending && a.pr == b.pr &&
-           a.ex == b.ex && a.monitor == b.monitor && a.enabled == b.enabled && a.reset == b.reset;
-}
-
 /* The run gives the refusal before lines, budget and devices are tested, and
  * changes nothing. */
 static void run_refused(uint32_t *store, size_t count, uint32_t refusal, int flag, unsigned byte) {
@@ -40,12 +31,12 @@ static void run_refused(uint32_t *store, size_t count, uint32_t refusal, int fla
     uint8_t typing = 7;
     const rc4000_result run =
         rc4000_run(store, count, given, 16777216, 65536, wide, wrong, sizeof wrong, &typing, 1);
-    expect(run.outcome == RC4000_REFUSED && run.number == refusal, "run", flag, byte);
-    expect(run.executed == 0 && run.entries == 0, "counts of run", flag, byte);
-    expect(run.taken == 0 && run.typed == 0 && typing == 7, "devices of run", flag, byte);
-    expect(run.devices.reader == 16777216 && run.devices.typewriter == 5, "registers of run", flag,
-           byte);
-    expect(same(run.control, given), "record of run", flag, byte);
+    expect_for(run.outcome == RC4000_REFUSED && run.number == refusal, "run", flag, byte);
+    expect_for(run.executed == 0 && run.entries == 0, "counts of run", flag, byte);
+    expect_for(run.taken == 0 && run.typed == 0 && typing == 7, "devices of run", flag, byte);
+    const bool registers = run.devices.reader == 16777216 && run.devices.typewriter == 5;
+    expect_for(registers, "registers of run", flag, byte);
+    expect_for(same(run.control, given), "record of run", flag, byte);
 }
 
 /* So does the autoload key. */
@@ -55,10 +46,10 @@ static void autoload_refused(uint32_t *store, size_t count, uint32_t refusal, in
     const rc4000_devices wide = {3, 16777216};
     const rc4000_autoloaded key =
         rc4000_press_autoload(store, count, given, wide, wrong, sizeof wrong);
-    expect(key.refusal == refusal && key.taken == 0, "autoload key", flag, byte);
-    expect(key.devices.reader == 3 && key.devices.typewriter == 16777216,
+    expect_for(key.refusal == refusal && key.taken == 0, "autoload key", flag, byte);
+    expect_for(key.devices.reader == 3 && key.devices.typewriter == 16777216,
            "registers of the autoload key", flag, byte);
-    expect(same(key.control, given), "record of the autoload key", flag, byte);
+    expect_for(same(key.control, given), "record of the autoload key", flag, byte);
 }
 
 /* So does the writer, before it tests remark and buffer. */
@@ -68,8 +59,8 @@ static void write_refused(uint32_t *store, size_t count, uint32_t refusal, int f
     uint8_t buffer = 7;
     const rc4000_written written =
         rc4000_write(store, count, with_flag(flag, byte), 1, text, sizeof text, &buffer, 1);
-    expect(written.refusal == refusal && written.length == 0, "writer", flag, byte);
-    expect(buffer == 7, "buffer of the writer", flag, byte);
+    expect_for(written.refusal == refusal && written.length == 0, "writer", flag, byte);
+    expect_for(buffer == 7, "buffer of the writer", flag, byte);
 }
 
 /* Each call on a store of these cells gives the refusal, and changes nothing. */
@@ -82,12 +73,12 @@ static void refused(const uint32_t *cells, size_t count, uint32_t refusal, int f
     autoload_refused(store, count, refusal, flag, byte);
     write_refused(store, count, refusal, flag, byte);
     const rc4000_state reset = rc4000_press_reset(store, count, given);
-    expect(reset.refusal == refusal, "reset key", flag, byte);
-    expect(same(reset.control, given), "record of the reset key", flag, byte);
+    expect_for(reset.refusal == refusal, "reset key", flag, byte);
+    expect_for(same(reset.control, given), "record of the reset key", flag, byte);
     const rc4000_state start = rc4000_press_start(store, count, given);
-    expect(start.refusal == refusal, "start key", flag, byte);
-    expect(same(start.control, given), "record of the start key", flag, byte);
-    expect(memcmp(store, cells, sizeof store) == 0, "store", flag, byte);
+    expect_for(start.refusal == refusal, "start key", flag, byte);
+    expect_for(same(start.control, given), "record of the start key", flag, byte);
+    expect_for(memcmp(store, cells, sizeof store) == 0, "store", flag, byte);
 }
 
 /* 0 and 1 are written, and come back from the tape. */
@@ -97,9 +88,9 @@ static void written(int flag, unsigned byte) {
     uint8_t buffer[sizeof tape];
     const rc4000_written done =
         rc4000_write(store, CELLS, given, 0, NULL, 0, buffer, sizeof buffer);
-    expect(done.refusal == 0 && done.length == sizeof tape, "writer", flag, byte);
+    expect_for(done.refusal == 0 && done.length == sizeof tape, "writer", flag, byte);
     const rc4000_state back = rc4000_load(store, CELLS, tapes_record, buffer, sizeof buffer);
-    expect(back.refusal == 0 && same(back.control, given), "record written", flag, byte);
+    expect_for(back.refusal == 0 && same(back.control, given), "record written", flag, byte);
 }
 
 /* 0 and 1 are taken. */
@@ -107,16 +98,16 @@ static void taken(int flag, unsigned byte) {
     const rc4000_control given = with_flag(flag, byte);
     uint32_t store[CELLS] = {0};
     const rc4000_result run = rc4000_run_without_devices(store, CELLS, given, 0, 0);
-    expect(run.outcome == (given.reset ? RC4000_RESET : RC4000_SPENT), "run", flag, byte);
-    expect(same(run.control, given), "record of run", flag, byte);
+    expect_for(run.outcome == (given.reset ? RC4000_RESET : RC4000_SPENT), "run", flag, byte);
+    expect_for(same(run.control, given), "record of run", flag, byte);
     const rc4000_state start = rc4000_press_start(store, CELLS, given);
-    expect(start.refusal == 0 && start.control.reset == 0, "start key", flag, byte);
+    expect_for(start.refusal == 0 && start.control.reset == 0, "start key", flag, byte);
     const rc4000_autoloaded key =
         rc4000_press_autoload(store, CELLS, given, (rc4000_devices){0, 0}, wrong, 4);
-    expect(key.refusal == 0 && key.control.reset == 0, "autoload key", flag, byte);
-    expect(key.taken == (given.reset ? 4 : 0), "characters of the autoload key", flag, byte);
+    expect_for(key.refusal == 0 && key.control.reset == 0, "autoload key", flag, byte);
+    expect_for(key.taken == (given.reset ? 4 : 0), "characters of the autoload key", flag, byte);
     const rc4000_state reset = rc4000_press_reset(store, CELLS, given);
-    expect(reset.refusal == 0 && reset.control.reset == 1, "reset key", flag, byte);
+    expect_for(reset.refusal == 0 && reset.control.reset == 1, "reset key", flag, byte);
 }
 
 /* The loader does not test the record that it is given. */
@@ -124,11 +115,11 @@ static void loaded(int flag, unsigned byte) {
     const rc4000_control given = with_flag(flag, byte);
     uint32_t store[CELLS] = {0};
     const rc4000_state empty = rc4000_load(store, CELLS, given, tape, 0);
-    expect(empty.refusal == RC4000_TAPE_ENDS, "empty tape", flag, byte);
-    expect(same(empty.control, given), "record of the empty tape", flag, byte);
+    expect_for(empty.refusal == RC4000_TAPE_ENDS, "empty tape", flag, byte);
+    expect_for(same(empty.control, given), "record of the empty tape", flag, byte);
     const rc4000_state full = rc4000_load(store, CELLS, given, tape, sizeof tape);
-    expect(full.refusal == 0, "tape", flag, byte);
-    expect(same(full.control, tapes_record), "record of the tape", flag, byte);
+    expect_for(full.refusal == 0, "tape", flag, byte);
+    expect_for(same(full.control, tapes_record), "record of the tape", flag, byte);
 }
 
 int main(void) {

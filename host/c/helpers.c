@@ -1,18 +1,8 @@
 /* The functions that rc4000.h itself defines. Prints what differs. */
-#include "rc4000.h"
-#include <stdio.h>
+#include "expect.h"
 #include <string.h>
 
 enum { CELLS = 8 };
-
-static int differences;
-
-static void expect(bool holds, const char *what) {
-    if (!holds) {
-        printf("%s\n", what);
-        differences++;
-    }
-}
 
 /* Every call takes the fresh record; a run ends in the reset state, and the
  * start key leaves it. */

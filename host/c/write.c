@@ -1,29 +1,16 @@
 /* Writing tapes through the C call: a machine and its remark come back from
  * their tape, the bytes behind it are kept, and a refusal changes nothing.
  * Prints what differs. */
-#include "rc4000.h"
-#include <stdio.h>
+#include "expect.h"
 #include <string.h>
 
-enum { CELLS = 16, FULL = 16372, LARGE = 20000, KEPT = 170, SPACE = RC4000_LONGEST_TAPE + 8, BARE = 26 + 6 };
+enum { CELLS = 16, FULL = 16372, LARGE = 20000 }; /* cells of stores */
+enum { KEPT = 170, SPACE = RC4000_LONGEST_TAPE + 8, BARE = 26 + 6 };
 
 static const rc4000_control running = {18, 4194304, 16777215, 6, 255, 5, 1, 1, 0};
 static const uint8_t text[256] = "taken away";
 static uint8_t tape[SPACE];
 static uint32_t large[LARGE];
-static int differences;
-
-static void expect(bool holds, const char *what) {
-    if (!holds) {
-        printf("%s\n", what);
-        differences++;
-    }
-}
-
-static bool same(rc4000_control a, rc4000_control b) {
-    return a.ic == b.ic && a.ir == b.ir && a.im == b.im && a.pending == b.pending && a.pr == b.pr &&
-           a.ex == b.ex && a.monitor == b.monitor && a.enabled == b.enabled && a.reset == b.reset;
-}
 
 static bool kept(size_t from) {
     for (size_t i = from; i < SPACE; i++)

@@ -1,4 +1,4 @@
--- The two passes over the store: one stretch, and the zero that ends it, in each turn. Assumes nothing.
+-- The two passes over the store: in each turn zero cells, or one stretch and the zero that ends it. Assumes nothing.
 use Prim.Native.Nat.{ℕ, zero, suc, _+_, _-_, _*_, _≤_, _<_}
 use mathlib.Core.Path.{_≡_, refl, sym, ap, _∙_}
 use mathlib.Core.Bool.{Bool, true, false, true≢false}

@@ -155,7 +155,7 @@ fn blocks_length(store: &[u32]) -> usize
     total
 }
 
-// The blocks of the store, whose bytes go up to the place `to`: no cell behind the last block is looked at.
+// The blocks of the store, whose bytes go up to the place `to`: there the loop ends, with the last block and not with the store.
 fn put_blocks(out: &mut [u8], from: usize, to: usize, store: &[u32])
     requires { ⌜ (length (now store) ≤ mostCells) × (to ≡ from + length (blocksBytes (storeBlocks (now store)))) × (to ≤ length (now out)) ⌝ }
     ensures { λ _. ⌜ now (out .exit) ≡ put (now (out .entry)) from (blocksBytes (storeBlocks (now (store .entry)))) ⌝ }
