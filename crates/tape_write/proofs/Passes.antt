@@ -1,12 +1,12 @@
 -- The two passes over the store: in each turn zero cells, or one stretch and the zero that ends it. Assumes nothing.
-use Prim.Native.Nat.{ℕ, zero, suc, _+_, _-_, _*_, _≤_, _<_}
+use Prim.Native.Nat.{ℕ, zero, suc, _+_, _-_, _≤_, _<_}
 use mathlib.Core.Path.{_≡_, refl, sym, ap, _∙_}
 use mathlib.Core.Bool.{Bool, true, false, true≢false}
 use mathlib.Core.List.{List, [], _∷_, _++_}
 use native.Mathlib.Numerals.{add-one}
 use native.Mathlib.Omega.{arith}
 use native.Mathlib.Nat.{add-sub-cancel-left}
-use borrow.Author.Tests.{ne-eqb, leb-true, leb-false}
+use borrow.Author.Tests.{leb-true, leb-false}
 use lib.Dec.{leb, eqb·suc-zero}
 use lib.ListN.{length, take, drop, getD, length-append, length-drop, drop-of-length-le}
 use lib.Seq.{drop-cons, drop-drop, length-take-le}
@@ -56,11 +56,12 @@ blocks-left s i h = by (leb (length s) i) refl
     by true e = let z = ap length (blocks-none s i (leb-true (length s) i e)) in let no : ⊥ = omega arith in absurd no
     by false e = leb-false (length s) i e
 
-step : (i : ℕ) (q : List ℕ) → blocksBytes (blocksFrom false i q) ≡ stretchBytes i (stretch q) ++ blocksBytes (blocksFrom false (i + (length (stretch q) + 1)) (drop (length (stretch q) + 1) q))
+step : (i : ℕ) (q : List ℕ) → 0 < length (stretch q)
+    → blocksBytes (blocksFrom false i q) ≡ stretchBytes i (stretch q) ++ blocksBytes (blocksFrom false (i + (length (stretch q) + 1)) (drop (length (stretch q) + 1) q))
 unfolding stretch blocksFrom blocksBytes stretchBytes
-step i [] = refl
-step i (zero ∷ q) = refl
-step i (suc x ∷ q) = ap (λ (bs : List Block). recordBytes 1 (blockBytes (record { first = i; cells = suc x ∷ stretch q })) ++ blocksBytes bs) (next x)
+step i [] h = let no : ⊥ = omega arith in absurd no
+step i (zero ∷ q) h = let no : ⊥ = omega arith in absurd no
+step i (suc x ∷ q) h = ap (λ (bs : List Block). recordBytes 1 (blockBytes (record { first = i; cells = suc x ∷ stretch q })) ++ blocksBytes bs) (next x)
   where
     next : (x : ℕ) → blocksFrom true (i + 1) q ≡ blocksFrom false (i + (suc (length (stretch q)) + 1)) (drop (suc (length (stretch q)) + 1) (suc x ∷ q))
     next x =
@@ -68,19 +69,14 @@ step i (suc x ∷ q) = ap (λ (bs : List Block). recordBytes 1 (blockBytes (reco
         let n : suc (length (stretch q)) + 1 ≡ suc (length (stretch q) + 1) = omega arith in
         rw (← e, n) (blocks-past (i + 1) q)
 
--- k cells from i on are a stretch
-module _ (s : List ℕ) (i k : ℕ) (e : k ≡ length (stretch (drop i s))) where
+-- k cells from i on, one at least, are a stretch
+module _ (s : List ℕ) (i k : ℕ) (e : k ≡ length (stretch (drop i s))) (p : 0 < k) where
   stretch-is : take k (drop i s) ≡ stretch (drop i s)
   stretch-is = rw e (sym (stretch-take (drop i s)))
 
   pub blocks-step : blocksAfter s i ≡ stretchBytes i (take k (drop i s)) ++ blocksAfter s (i + (k + 1))
   unfolding blocksAfter
-  blocks-step = rw stretch-is (step i (drop i s) ∙ rw (← e, drop-drop (k + 1) i s))
-
--- past a cell that is zero
-pub blocks-zero : (s : List ℕ) (i : ℕ) → i < length s → getD s i 0 ≡ 0 → blocksAfter s (i + 1) ≡ blocksAfter s i
-unfolding stretchBytes
-blocks-zero s i h e = sym (blocks-step s i 0 (sym (stretch-stops s i h e)))
+  blocks-step = rw stretch-is (step i (drop i s) (omega arith) ∙ rw (← e, drop-drop (k + 1) i s))
 
 -- past several that are zero
 past-zeros : (k i : ℕ) (q : List ℕ) → allZero (take k q) ≡ true → blocksFrom false (i + k) (drop k q) ≡ blocksFrom false i q
@@ -94,23 +90,24 @@ pub blocks-zeros : (s : List ℕ) (i k : ℕ) → allZero (take k (drop i s)) �
 unfolding blocksAfter
 blocks-zeros s i k e = ap blocksBytes (rw (← (drop-drop k i s)) (past-zeros k i (drop i s) e))
 
+-- past one
+pub blocks-zero : (s : List ℕ) (i : ℕ) → i < length s → getD s i 0 ≡ 0 → blocksAfter s (i + 1) ≡ blocksAfter s i
+unfolding allZero
+blocks-zero s i h e = blocks-zeros s i 1 (rw (drop-cons s i 0 h, e))
+
 length-stretch : (i : ℕ) (cs : List ℕ) → length (stretchBytes i cs) ≡ blockSize (length cs)
 unfolding stretchBytes
-length-stretch i [] = refl
-length-stretch i (x ∷ cs) =
-    length-record 1 (blockBytes (record { first = i; cells = x ∷ cs })) ∙ ap (λ (n : ℕ). 6 + n) (length-block (record { first = i; cells = x ∷ cs }))
-    ∙ sizes (length cs)
-  where
-    sizes : (n : ℕ) → 6 + (4 + 4 * suc n) ≡ blockSize (suc n)
-    sizes n = rw (eqb·suc-zero n) (omega arith)
+length-stretch i cs =
+    let b : Block = record { first = i; cells = cs } in
+    omega (arith, length-record 1 (blockBytes b), length-block b)
 
-module _ (s : List ℕ) (i k : ℕ) (e : k ≡ length (stretch (drop i s))) (h : i + k ≤ length s) where
+module _ (s : List ℕ) (i k : ℕ) (e : k ≡ length (stretch (drop i s))) (p : 0 < k) (h : i + k ≤ length s) where
   length-part : length (take k (drop i s)) ≡ k
   length-part = length-take-le k (drop i s) (simp length-drop (omega arith))
 
   pub size-step : length (blocksAfter s i) ≡ blockSize k + length (blocksAfter s (i + (k + 1)))
   size-step =
-      ap length (blocks-step s i k e)
+      ap length (blocks-step s i k e p)
       ∙ length-append (stretchBytes i (take k (drop i s))) (blocksAfter s (i + (k + 1)))
       ∙ rw (length-stretch i (take k (drop i s)), length-part)
 
@@ -119,20 +116,11 @@ module _ (s : List ℕ) (i k : ℕ) (e : k ≡ length (stretch (drop i s))) (h :
   put-step o₀ o₁ at b f =
       let g = rw (add-sub-cancel-left i k) at f in
       let l : at + blockSize k ≡ at + length (stretchBytes i (take k (drop i s))) = rw (length-stretch i (take k (drop i s)), length-part) in
-      rw (g, l, blocks-step s i k e) (put-put o₀ at (stretchBytes i (take k (drop i s))) (blocksAfter s (i + (k + 1))) b)
+      rw (g, l, blocks-step s i k e p) (put-put o₀ at (stretchBytes i (take k (drop i s))) (blocksAfter s (i + (k + 1))) b)
 
   pub part-fits : (at n : ℕ) → length s ≤ 8388608 → at + length (blocksAfter s i) ≤ n
       → (length (take (i + k - i) (drop i s)) ≤ 8388608) × (at + blockSize (length (take (i + k - i) (drop i s))) ≤ n)
   part-fits at n u f = rw (add-sub-cancel-left i k, length-part) (omega arith, omega (arith, size-step))
-
--- ---- the sizes of blocks
-
-pub size-some : (k : ℕ) → (k ≡ 0 → ⊥) → blockSize k ≡ 10 + 4 * k
-size-some k n = rw (ne-eqb k 0 n)
-
-pub size-most : (k : ℕ) → blockSize k ≤ 14 * k
-size-most zero = omega arith
-size-most (suc k) = rw (eqb·suc-zero k) (omega arith)
 
 -- ---- after the last cell
 

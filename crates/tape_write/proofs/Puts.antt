@@ -123,18 +123,12 @@ cells-all o₀ o₁ at i cs e f = f ∙ rw (e, take-length cs)
 
 -- ---- a block
 
-pub no-stretch : (o : List ℕ) (at i : ℕ) (cs : List ℕ) → length cs ≡ 0 → o ≡ put o at (stretchBytes i cs)
-unfolding stretchBytes
-no-stretch o at i [] e = sym (put-none o at)
-no-stretch o at i (x ∷ cs) e = let no : ⊥ = omega arith in absurd no
-
-pub stretch-put : (o₀ o₁ o₂ o₃ : List ℕ) (at i l : ℕ) (cs : List ℕ) → (length cs ≡ 0 → ⊥) → at ≤ length o₀ → l ≡ 4 + 4 * length cs → o₁ ≡ put o₀ at (headerBytes 1 l)
+pub stretch-put : (o₀ o₁ o₂ o₃ : List ℕ) (at i l : ℕ) (cs : List ℕ) → at ≤ length o₀ → l ≡ 4 + 4 * length cs → o₁ ≡ put o₀ at (headerBytes 1 l)
     → o₂ ≡ put o₁ (at + 6) (bytes4 i) → o₃ ≡ put o₂ (at + 10) (cellsBytes cs) → o₃ ≡ put o₀ at (stretchBytes i cs)
 unfolding stretchBytes recordBytes headerBytes blockBytes
-stretch-put o₀ o₁ o₂ o₃ at i l [] n h el e f g = absurd (n refl)
-stretch-put o₀ o₁ o₂ o₃ at i l (x ∷ cs) n h el e f g =
-    let b : Block = record { first = i; cells = x ∷ cs } in
+stretch-put o₀ o₁ o₂ o₃ at i l cs h el e f g =
+    let b : Block = record { first = i; cells = cs } in
     let k : l ≡ length (blockBytes b) = el ∙ sym (length-block b) in
     let e′ = rw k at e in
     let a = put-then o₀ o₁ o₂ at (at + 6) (headerBytes 1 (length (blockBytes b))) (bytes4 i) e′ f refl h in
-    put-then o₀ o₂ o₃ at (at + 10) (headerBytes 1 (length (blockBytes b)) ++ bytes4 i) (cellsBytes (x ∷ cs)) a g refl h
+    put-then o₀ o₂ o₃ at (at + 10) (headerBytes 1 (length (blockBytes b)) ++ bytes4 i) (cellsBytes cs) a g refl h

@@ -24,14 +24,13 @@ unfoldable pub allZero : List ℕ → Bool
 allZero [] = true
 allZero (x ∷ s) = cond (eqb x 0) (allZero s) false
 
--- the block of the cells cs, the first of which is the cell i; nothing for no cells
+-- the block of the cells cs, the first of which is the cell i
 unfoldable pub stretchBytes : ℕ → List ℕ → List ℕ
-stretchBytes i [] = []
-stretchBytes i (x ∷ cs) = recordBytes 1 (blockBytes (record { first = i; cells = x ∷ cs }))
+stretchBytes i cs = recordBytes 1 (blockBytes (record { first = i; cells = cs }))
 
 -- how many bytes a block of k cells takes
 abbrev pub blockSize : ℕ → ℕ
-blockSize k = cond (eqb k 0) 0 (10 + 4 * k)
+blockSize k = 10 + 4 * k
 
 -- what is written of a machine that passed 1 to 3
 unfoldable pub writtenAs : List ℕ → Control → Option (List ℕ) → List ℕ → Writing

@@ -70,27 +70,25 @@ fn block_size(k: usize) -> usize
     requires { ⌜ k ≤ mostCells ⌝ }
     ensures { λ r. ⌜ r ≡ blockSize k ⌝ }
 {
-    if k == 0 { 0 } else { 10 + 4 * k }
+    10 + 4 * k
 }
 
-// The block of these cells. There is one at least; for none nothing is written, so that the contract needs no condition.
+// The block of these cells.
 fn put_stretch(out: &mut [u8], at: usize, first: u32, cells: &[u32])
     requires { ⌜ (length (now cells) ≤ mostCells) × (at + blockSize (length (now cells)) ≤ length (now out)) ⌝ }
     ensures { λ _. ⌜ now (out .exit) ≡ put (now (out .entry)) at (stretchBytes first (now (cells .entry))) ⌝ }
 {
-    if cells.len() == 0 {
-        return;
-    }
     put_header(out, at, 1, (4 + 4 * cells.len()) as u32);
     put_number(out, at + 6, first);
     put_cells(out, at + 10, cells);
 }
 
-// How many cells from there on are not zero, up to the first that is.
+// How many cells from one that is not zero on are not zero, up to the first that is.
 fn stretch_length(store: &[u32], first: usize) -> usize
-    requires { ⌜ first ≤ length (now store) ⌝ }
+    requires { ⌜ (first < length (now store)) × (getD (now store) first 0 ≡ 0 → ⊥) ⌝ }
     ensures value { λ r. ⌜ r ≡ length (stretch (drop first (now (store .entry)))) ⌝ }
     ensures bound { λ r. ⌜ first + r ≤ length (now (store .entry)) ⌝ }
+    ensures some { λ r. ⌜ 0 < r ⌝ }
 {
     let mut end = first;
     while end < store.len() {

@@ -6,7 +6,7 @@ use lib.ListN.{length}
 use Rattle.definition_tape.specs.Blocks.{storeBlocks}
 use Rattle.definition_tape.specs.Bytes.{blocksBytes}
 use Rattle.tape_write.specs.Steps.{blocksAfter}
-use Rattle.tape_write.proofs.Passes.{blocks-all, size-most, size-step, length-done}
+use Rattle.tape_write.proofs.Passes.{blocks-all, size-step, length-done}
 use borrow.Author.Needs.{needs}
 use Rattle.tape_write.proofs.blocks_length.Statement.{statement}
 use Rattle.tape_write.proofs.blocks_length.Tie as tie
@@ -51,7 +51,7 @@ block-size-requires c κs = omega (arith, c .stretch-length .ensures)
 add-total : tie.Need-add-total Inv-loop μ-loop
 add-total c =
     let b4 = c .before .before .before .before in
-    omega (arith, size-most (c .before .stretch-length .result), c .block-size .ensures, c .before .stretch-length .ensures, b4 .before .loop .inv)
+    omega (arith, c .block-size .ensures, c .before .stretch-length .ensures, b4 .before .loop .inv)
 
 add-i-2 : tie.Need-add-i-2 Inv-loop μ-loop
 add-i-2 c = omega (arith, c .before .stretch-length .ensures)
@@ -68,8 +68,7 @@ loop-again-2 c =
     let l = c .before .before .before .before .before .loop in
     let k = c .before .stretch-length in
     let e = c .block-size .ensures in
-    let m = size-most (k .result) in
-    let z = size-step s (l .i) (k .result) (k .ensures .0) (k .ensures .1) in
+    let z = size-step s (l .i) (k .result) (k .ensures .0) (k .ensures .1 .1) (k .ensures .1 .0) in
     (omega (arith, k .ensures), omega (arith, l .inv), omega (arith, l .inv))
 
 returns : tie.Need-returns Inv-loop μ-loop

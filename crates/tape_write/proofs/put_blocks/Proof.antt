@@ -56,8 +56,7 @@ stretch-length-requires c κs =
     let b4 = c .before .before .before .before in
     let a = b4 .before .before in
     let l = c .before .before .before .loop in
-    let h = blocks-left (now (a .args .store)) (l .i) (omega (arith, l .inv, a .pre, c .before .before .loop-test .taken)) in
-    omega arith
+    (blocks-left (now (a .args .store)) (l .i) (omega (arith, l .inv, a .pre, c .before .before .loop-test .taken)), c .if1 .left)
 
 add-end : tie.Need-add-end Inv-loop μ-loop
 add-end c = omega (arith, c .stretch-length .ensures)
@@ -84,7 +83,7 @@ put-stretch-requires c κs =
     let a = b8 .before .args in
     let l = b4 .before .before .loop in
     let k = c .before .before .stretch-length in
-    part-fits (now (a .store)) (l .i) (k .result) (k .ensures .0) (k .ensures .1) (l .at) (length (l .out)) (b8 .before .pre .0)
+    part-fits (now (a .store)) (l .i) (k .result) (k .ensures .0) (k .ensures .1 .1) (k .ensures .1 .0) (l .at) (length (l .out)) (b8 .before .pre .0)
     (omega (arith, l .inv, b8 .before .pre))
 
 block-size-requires : tie.Need-block-size-requires Inv-loop μ-loop
@@ -102,7 +101,7 @@ add-at c =
     let a = b12 .before .args in
     let l = b8 .before .before .loop in
     let k = b4 .before .before .stretch-length in
-    let z = size-step (now (a .store)) (l .i) (k .result) (k .ensures .0) (k .ensures .1) in
+    let z = size-step (now (a .store)) (l .i) (k .result) (k .ensures .0) (k .ensures .1 .1) (k .ensures .1 .0) in
     omega (arith, l .inv, b12 .before .pre, c .block-size .ensures)
 
 add-i-2 : tie.Need-add-i-2 Inv-loop μ-loop
@@ -133,9 +132,9 @@ loop-again-2 c =
     let k = b4 .before .before .stretch-length in
     let p = c .before .before .before .put-stretch in
     let e = c .block-size .ensures in
-    let z = size-step s (l .i) (k .result) (k .ensures .0) (k .ensures .1) in
+    let z = size-step s (l .i) (k .result) (k .ensures .0) (k .ensures .1 .1) (k .ensures .1 .0) in
     let b : l .at ≤ length (l .out) = omega (arith, l .inv, b12 .before .pre) in
-    let w = put-step s (l .i) (k .result) (k .ensures .0) (k .ensures .1) (l .out) _ (l .at) b (p .ensures) in
+    let w = put-step s (l .i) (k .result) (k .ensures .0) (k .ensures .1 .1) (k .ensures .1 .0) (l .out) _ (l .at) b (p .ensures) in
     (omega (arith, k .ensures), p .kept .0 ∙ l .inv .1, omega (arith, l .inv), rw e (w ∙ l .inv .3))
 
 same-length : tie.Need-same-length Inv-loop μ-loop

@@ -32,8 +32,10 @@ returns : tie.Need-returns Inv-loop μ-loop
 returns c =
     let s = now (c .before .before .before .before .args .store) in
     let l = c .before .before .before .loop in
+    let a = c .before .before .before .before in
     let z = stretch-stops s (l .end) (c .before .before .loop-test .taken) (c .if1 .taken) in
-    (omega (arith, l .inv), omega (arith, l .inv))
+    let g = stretch-goes s (a .args .first) (a .pre .0) (a .pre .1) in
+    (omega (arith, l .inv), (omega (arith, l .inv), omega (arith, l .inv)))
 
 add-end : tie.Need-add-end Inv-loop μ-loop
 add-end c = search needs
@@ -55,8 +57,10 @@ returns-2 : tie.Need-returns-2 Inv-loop μ-loop
 returns-2 c =
     let s = now (c .before .before .args .store) in
     let l = c .before .loop in
+    let a = c .before .before in
     let z = stretch-ends s (l .end) (omega arith) in
-    (omega (arith, l .inv), omega (arith, l .inv))
+    let g = stretch-goes s (a .args .first) (a .pre .0) (a .pre .1) in
+    (omega (arith, l .inv), (omega (arith, l .inv), omega (arith, l .inv)))
 
 pub stretch-length-spec : {M : Type 1} → statement M
 stretch-length-spec =
