@@ -1,2 +1,3 @@
--- The law of the steps on ARBR with an offset.
-pub mod Offset
+-- The law of the steps, and products of signed numbers.
+pub mod Product
+pub mod Signed

@@ -1,0 +1,119 @@
+-- Signed numbers of 24 bits, from u and v which have 2 ^ 23 added, and their product; then as the host computes them, from bits, `ofZ`, that it reads back, `toZ`.
+-- Assumes nothing.
+use mathlib.Core.Path.{_≡_, refl, ap, _∙_}
+use Prim.Native.Nat.{ℕ, zero, suc, _+_, _-_, _*_, _^_, _≤_, _<_}
+use native.Mathlib.Omega.{arith}
+use native.Mathlib.Nat.{mul-le-mul-right}
+use native.Mathlib.Decide.{decLt}
+use borrow.Author.Tests.{lt-ltb, le-ltb}
+use lib.IntN.{ℤ, pos, negsuc, negℤ, _+ℤ_, _-ℤ_, _*ℤ_}
+use lib.Signed.{mag}
+use mir.Syntax.{w32, w64}
+use mir.Val.{Fits, SFits, toZ, ofZ}
+use mir.Facts.{toZ-ofZ, toZ-pos}
+use Rattle.multiply.proofs.Product.{productWithOffset}
+
+-- u - 2 ^ 23
+abbrev number : ℕ → ℤ
+number u = pos u -ℤ pos (2 ^ 23)
+
+-- z is u - 2 ^ 23, of 24 bits
+abbrev Is : ℕ → ℤ → Type 0
+Is u (pos a) = (u ≡ a + 2 ^ 23) × (a < 2 ^ 23)
+Is u (negsuc a) = u + suc a ≡ 2 ^ 23
+
+is-number : (u : ℕ) → u < 2 ^ 24 → Is u (number u)
+is-number u h =
+    elim (decLt u (2 ^ 23)) [
+      | yes l ↦ rw (lt-ltb _ _ l) (omega arith)
+      | no n ↦ rw (le-ltb u (2 ^ 23) (omega arith)) (omega arith, omega arith)
+    ]
+
+mag-is : (u : ℕ) (z : ℤ) → Is u z → mag z < 2 ^ 23
+mag-is u (pos a) h = h .1
+mag-is u (negsuc a) h = omega arith
+
+-- ---- the product
+bound : (a b : ℕ) → a ≤ 2 ^ 23 → b ≤ 2 ^ 23 → a * b ≤ 2 ^ 46
+bound a b ha hb = let k : a * b ≤ 2 ^ 23 * b = mul-le-mul-right b ha in omega arith
+
+mag-minus : (k n : ℕ) → k ≤ n → mag (negℤ (pos k)) ≤ n
+mag-minus zero n h = h
+mag-minus (suc k) n h = omega arith
+
+mag-product : (u v : ℕ) (x y : ℤ) → Is u x → Is v y → mag (x *ℤ y) ≤ 2 ^ 46
+mag-product u v (pos a) (pos b) e f = bound a b (omega arith) (omega arith)
+mag-product u v (pos a) (negsuc b) e f = mag-minus (a * suc b) (2 ^ 46) (bound a (suc b) (omega arith) (omega arith))
+mag-product u v (negsuc a) (pos b) e f = mag-minus (suc a * b) (2 ^ 46) (bound (suc a) b (omega arith) (omega arith))
+mag-product u v (negsuc a) (negsuc b) e f = bound (suc a) (suc b) (omega arith) (omega arith)
+
+minus : (k c : ℕ) → k ≤ c → negℤ (pos k) +ℤ pos c ≡ pos (c - k)
+minus zero c h = ap pos (omega arith)
+minus (suc k) c h = rw (le-ltb c (suc k) h) refl
+
+is-product : (u v : ℕ) (x y : ℤ) → Is u x → Is v y → x *ℤ y +ℤ pos (2 ^ 48) ≡ pos (productWithOffset u v)
+is-product u v (pos a) (pos b) (e, _) (f, _) = ap pos (rw (e, f) (omega arith))
+is-product u v (pos a) (negsuc b) (e, h) f =
+    let m : a * (v + suc b) ≡ a * 2 ^ 23 = ap (λ (n : ℕ). a * n) f in
+    minus (a * suc b) (2 ^ 48) (omega arith) ∙ ap pos (rw e (omega arith))
+is-product u v (negsuc a) (pos b) e (f, h) =
+    let m : (u + suc a) * b ≡ 2 ^ 23 * b = ap (λ (n : ℕ). n * b) e in
+    minus (suc a * b) (2 ^ 48) (omega arith) ∙ ap pos (rw f (omega arith))
+is-product u v (negsuc a) (negsuc b) e f =
+    let m : (u + suc a) * suc b ≡ 2 ^ 23 * suc b = ap (λ (n : ℕ). n * suc b) e in
+    let n : u * (v + suc b) ≡ u * 2 ^ 23 = ap (λ (n : ℕ). u * n) f in
+    ap pos (omega arith)
+
+-- ---- as the host computes them
+fits : (z : ℤ) → mag z < 2 ^ 63 → SFits w64 z
+fits z h = record { sfits = h }
+
+-- what is read back of a number of 64 bits
+abbrev read : ℤ → ℤ
+read z = toZ w64 (ofZ w64 z)
+
+-- signed_number
+module _ (u : ℕ) (h : u < 2 ^ 24) where
+  mag-number : mag (number u) < 2 ^ 23
+  mag-number = mag-is u (number u) (is-number u h)
+
+  held : toZ w32 u -ℤ pos (2 ^ 23) ≡ number u
+  held = rw (toZ-pos w32 {n = u} (omega arith)) refl
+
+  pub number-fits : SFits w32 (toZ w32 u -ℤ pos (2 ^ 23))
+  number-fits = let m = mag-number in rw held (record { sfits = omega arith })
+
+  pub wider-fits : SFits w64 (toZ w32 (ofZ w32 (toZ w32 u -ℤ pos (2 ^ 23))))
+  wider-fits = let m = mag-number in rw (toZ-ofZ number-fits, held) (fits (number u) (omega arith))
+
+  pub number-read : read (toZ w32 (ofZ w32 (toZ w32 u -ℤ pos (2 ^ 23)))) ≡ number u
+  number-read = rw (toZ-ofZ wider-fits, toZ-ofZ number-fits, held) refl
+
+-- multiply
+module _ (u v : ℕ) (hu : u < 2 ^ 24) (hv : v < 2 ^ 24) where
+  factors : read (number u) *ℤ read (number v) ≡ number u *ℤ number v
+  factors =
+      let m = mag-number u hu in
+      let n = mag-number v hv in
+      rw (toZ-ofZ (fits (number u) (omega arith)), toZ-ofZ (fits (number v) (omega arith))) refl
+
+  product-fits : SFits w64 (number u *ℤ number v)
+  product-fits = let m = mag-product u v (number u) (number v) (is-number u hu) (is-number v hv) in fits (number u *ℤ number v) (omega arith)
+
+  sum : read (read (number u) *ℤ read (number v)) +ℤ pos (2 ^ 48) ≡ pos (productWithOffset u v)
+  sum = rw (factors, toZ-ofZ product-fits) (is-product u v (number u) (number v) (is-number u hu) (is-number v hv))
+
+  below : productWithOffset u v < 2 ^ 63
+  below = let k : u * v ≤ 2 ^ 24 * v = mul-le-mul-right v (omega arith) in omega arith
+
+  pub times-fits : SFits w64 (read (number u) *ℤ read (number v))
+  times-fits = rw factors product-fits
+
+  pub sum-fits : SFits w64 (read (read (number u) *ℤ read (number v)) +ℤ pos (2 ^ 48))
+  sum-fits = rw sum (fits (pos (productWithOffset u v)) below)
+
+  pub sum-read : read (read (read (number u) *ℤ read (number v)) +ℤ pos (2 ^ 48)) ≡ pos (productWithOffset u v)
+  sum-read = rw sum (toZ-ofZ (fits (pos (productWithOffset u v)) below))
+
+  pub product-below : Fits w64 (productWithOffset u v)
+  product-below = let h = below in record { fits = omega arith }
