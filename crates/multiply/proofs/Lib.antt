@@ -1,3 +1,3 @@
--- The law of the steps, and products of signed numbers.
+-- The law of the steps; signed numbers of the host.
 pub mod Product
 pub mod Signed

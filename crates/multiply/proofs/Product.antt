@@ -1,4 +1,4 @@
--- The steps of WM give the signed product. ARBR, signed, is held as q = ARBR + 2 ^ 47, SB as u = SB + 2 ^ 23, W as v = W + 2 ^ 23, so that none is negative.
+-- The steps of WM give the signed product. ARBR, SB and W, signed, are held with an offset, so that none is negative: q = ARBR + 2 ^ 47, u = SB + 2 ^ 23.
 -- Assumes nothing.
 use mathlib.Core.Path.{_≡_, refl, sym, ap, _∙_}
 use mathlib.Core.Bool.{cond}

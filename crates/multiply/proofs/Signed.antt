@@ -1,5 +1,4 @@
--- Signed numbers of 24 bits, from u and v which have 2 ^ 23 added, and their product; then as the host computes them, from bits, `ofZ`, that it reads back, `toZ`.
--- Assumes nothing.
+-- Words as signed numbers, their product, and both as the host computes them. u and v are the numbers + 2 ^ 23. Assumes nothing.
 use mathlib.Core.Path.{_≡_, refl, ap, _∙_}
 use Prim.Native.Nat.{ℕ, zero, suc, _+_, _-_, _*_, _^_, _≤_, _<_}
 use native.Mathlib.Omega.{arith}
@@ -64,11 +63,11 @@ is-product u v (negsuc a) (negsuc b) e f =
     let n : u * (v + suc b) ≡ u * 2 ^ 23 = ap (λ (n : ℕ). u * n) f in
     ap pos (omega arith)
 
--- ---- as the host computes them
+-- ---- as the host computes them: a number stands in its bits, `ofZ`, and is read back from them, `toZ`
 fits : (z : ℤ) → mag z < 2 ^ 63 → SFits w64 z
 fits z h = record { sfits = h }
 
--- what is read back of a number of 64 bits
+-- read back from 64 bits
 abbrev read : ℤ → ℤ
 read z = toZ w64 (ofZ w64 z)
 
