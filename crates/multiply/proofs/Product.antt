@@ -66,8 +66,8 @@ last-offset s q hs hq =
 abbrev Holds : ℕ → ℕ → ℕ → ℕ → Type 0
 Holds u y h q = q + 2 ^ 23 * y ≡ h + 2 ^ 47 + u * y
 
-small : (u z h q : ℕ) → u ≤ 2 ^ 24 - 1 → z < 2 ^ 23 → h < 2 ^ 24 → Holds u (2 * z) h q → q < 2 ^ 48
-small u z h q hu hz hh e = let k : u * z ≤ (2 ^ 24 - 1) * z = mul-le-mul-right z hu in omega arith
+small : (u z h q : ℕ) → u < 2 ^ 24 → z < 2 ^ 23 → h < 2 ^ 24 → Holds u (2 * z) h q → q < 2 ^ 48
+small u z h q hu hz hh e = let k : u * z ≤ (2 ^ 24 - 1) * z = mul-le-mul-right z (omega arith) in omega arith
 
 parity : (u z h q : ℕ) → Holds u (2 * z) h q → q % 2 ≡ h % 2
 parity u z h q e = omega arith

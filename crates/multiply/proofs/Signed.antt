@@ -10,10 +10,10 @@ use lib.Signed.{mag}
 use mir.Syntax.{w32, w64}
 use mir.Val.{Fits, SFits, toZ, ofZ}
 use mir.Facts.{toZ-ofZ, toZ-pos}
-use Rattle.multiply.proofs.Product.{productWithOffset}
+use Rattle.multiply.proofs.Product.{withOffset, productWithOffset}
 
 -- u - 2 ^ 23
-abbrev number : ℕ → ℤ
+abbrev pub number : ℕ → ℤ
 number u = pos u -ℤ pos (2 ^ 23)
 
 -- z is u - 2 ^ 23, of 24 bits
@@ -64,55 +64,62 @@ is-product u v (negsuc a) (negsuc b) e f =
     ap pos (omega arith)
 
 -- ---- as the host computes them: a number stands in its bits, `ofZ`, and is read back from them, `toZ`
-fits : (z : ℤ) → mag z < 2 ^ 63 → SFits w64 z
-fits z h = record { sfits = h }
+fits-64 : (z : ℤ) → mag z < 2 ^ 63 → SFits w64 z
+fits-64 z h = record { sfits = h }
 
 -- read back from 64 bits
 abbrev read : ℤ → ℤ
 read z = toZ w64 (ofZ w64 z)
 
--- signed_number
+-- a word, of u = the number + 2 ^ 23
 module _ (u : ℕ) (h : u < 2 ^ 24) where
   mag-number : mag (number u) < 2 ^ 23
   mag-number = mag-is u (number u) (is-number u h)
 
-  held : toZ w32 u -ℤ pos (2 ^ 23) ≡ number u
-  held = rw (toZ-pos w32 {n = u} (omega arith)) refl
+  number-32 : toZ w32 u -ℤ pos (2 ^ 23) ≡ number u
+  number-32 = rw (toZ-pos w32 {n = u} (omega arith)) refl
 
-  pub number-fits : SFits w32 (toZ w32 u -ℤ pos (2 ^ 23))
-  number-fits = let m = mag-number in rw held (record { sfits = omega arith })
+  pub less-fits : SFits w32 (toZ w32 u -ℤ pos (2 ^ 23))
+  less-fits = let m = mag-number in rw number-32 (record { sfits = omega arith })
 
-  pub wider-fits : SFits w64 (toZ w32 (ofZ w32 (toZ w32 u -ℤ pos (2 ^ 23))))
-  wider-fits = let m = mag-number in rw (toZ-ofZ number-fits, held) (fits (number u) (omega arith))
+  pub cast-fits : SFits w64 (toZ w32 (ofZ w32 (toZ w32 u -ℤ pos (2 ^ 23))))
+  cast-fits = let m = mag-number in rw (toZ-ofZ less-fits, number-32) (fits-64 (number u) (omega arith))
 
   pub number-read : read (toZ w32 (ofZ w32 (toZ w32 u -ℤ pos (2 ^ 23)))) ≡ number u
-  number-read = rw (toZ-ofZ wider-fits, toZ-ofZ number-fits, held) refl
+  number-read = rw (toZ-ofZ cast-fits, toZ-ofZ less-fits, number-32) refl
 
--- multiply
-module _ (u v : ℕ) (hu : u < 2 ^ 24) (hv : v < 2 ^ 24) where
-  factors : read (number u) *ℤ read (number v) ≡ number u *ℤ number v
-  factors =
-      let m = mag-number u hu in
-      let n = mag-number v hv in
-      rw (toZ-ofZ (fits (number u) (omega arith)), toZ-ofZ (fits (number v) (omega arith))) refl
+-- the word x as a signed number
+abbrev signedWord : ℕ → ℤ
+signedWord x = number (withOffset x)
 
-  product-fits : SFits w64 (number u *ℤ number v)
-  product-fits = let m = mag-product u v (number u) (number v) (is-number u hu) (is-number v hv) in fits (number u *ℤ number v) (omega arith)
+is-word : (x : ℕ) → Is (withOffset x) (signedWord x)
+is-word x = is-number (withOffset x) (omega arith)
 
-  sum : read (read (number u) *ℤ read (number v)) +ℤ pos (2 ^ 48) ≡ pos (productWithOffset u v)
-  sum = rw (factors, toZ-ofZ product-fits) (is-product u v (number u) (number v) (is-number u hu) (is-number v hv))
+word-read : (x : ℕ) → read (signedWord x) ≡ signedWord x
+word-read x = let m = mag-is (withOffset x) (signedWord x) (is-word x) in toZ-ofZ (fits-64 (signedWord x) (omega arith))
 
-  below : productWithOffset u v < 2 ^ 63
-  below = let k : u * v ≤ 2 ^ 24 * v = mul-le-mul-right v (omega arith) in omega arith
+-- the product of two words
+module _ (w s : ℕ) where
+  factors : read (signedWord w) *ℤ read (signedWord s) ≡ signedWord w *ℤ signedWord s
+  factors = rw (word-read w, word-read s) refl
 
-  pub times-fits : SFits w64 (read (number u) *ℤ read (number v))
+  product-fits : SFits w64 (signedWord w *ℤ signedWord s)
+  product-fits = let m = mag-product _ _ (signedWord w) (signedWord s) (is-word w) (is-word s) in fits-64 _ (omega arith)
+
+  product-sum : read (read (signedWord w) *ℤ read (signedWord s)) +ℤ pos (2 ^ 48) ≡ pos (productWithOffset (withOffset w) (withOffset s))
+  product-sum = rw (factors, toZ-ofZ product-fits) (is-product _ _ (signedWord w) (signedWord s) (is-word w) (is-word s))
+
+  below : productWithOffset (withOffset w) (withOffset s) < 2 ^ 63
+  below = let k : withOffset w * withOffset s ≤ 2 ^ 24 * withOffset s = mul-le-mul-right (withOffset s) (omega arith) in omega arith
+
+  pub times-fits : SFits w64 (read (signedWord w) *ℤ read (signedWord s))
   times-fits = rw factors product-fits
 
-  pub sum-fits : SFits w64 (read (read (number u) *ℤ read (number v)) +ℤ pos (2 ^ 48))
-  sum-fits = rw sum (fits (pos (productWithOffset u v)) below)
+  pub sum-fits : SFits w64 (read (read (signedWord w) *ℤ read (signedWord s)) +ℤ pos (2 ^ 48))
+  sum-fits = rw product-sum (fits-64 _ below)
 
-  pub sum-read : read (read (read (number u) *ℤ read (number v)) +ℤ pos (2 ^ 48)) ≡ pos (productWithOffset u v)
-  sum-read = rw sum (toZ-ofZ (fits (pos (productWithOffset u v)) below))
+  pub sum-read : read (read (read (signedWord w) *ℤ read (signedWord s)) +ℤ pos (2 ^ 48)) ≡ pos (productWithOffset (withOffset w) (withOffset s))
+  sum-read = rw product-sum (toZ-ofZ (fits-64 (pos (productWithOffset (withOffset w) (withOffset s))) below))
 
-  pub product-below : Fits w64 (productWithOffset u v)
+  pub product-below : Fits w64 (productWithOffset (withOffset w) (withOffset s))
   product-below = let h = below in record { fits = omega arith }

@@ -1,7 +1,6 @@
-use native.Mathlib.Omega.{arith}
 use mathlib.Core.Path.{sym}
 use borrow.Author.Needs.{needs}
-use Rattle.multiply.proofs.Product.{withOffset, steps-product}
+use Rattle.multiply.proofs.Product.{steps-product}
 use Rattle.multiply.proofs.Signed.{times-fits, sum-fits, sum-read, product-below}
 use Rattle.multiply.proofs.multiply.Statement.{statement}
 use Rattle.multiply.proofs.multiply.Tie as tie
@@ -12,30 +11,25 @@ signed-number-requires c κs = search needs
 signed-number-requires-2 : tie.Need-signed-number-requires-2
 signed-number-requires-2 c κs = search needs
 
-mul-p : tie.Need-mul-p
-mul-p c =
-    let a = c .before .before .args in
-    rw (c .before .signed-number .ensures, c .signed-number2 .ensures) (times-fits (withOffset (a .w)) (withOffset (a .s)) (omega arith) (omega arith))
+mul-last-48-bits : tie.Need-mul-last-48-bits
+mul-last-48-bits c = let a = c .before .before .args in rw (c .before .signed-number .ensures, c .signed-number2 .ensures) (times-fits (a .w) (a .s))
 
-add-p : tie.Need-add-p
-add-p c =
-    let a = c .before .before .args in
-    rw (c .before .signed-number .ensures, c .signed-number2 .ensures) (sum-fits (withOffset (a .w)) (withOffset (a .s)) (omega arith) (omega arith))
+add-last-48-bits : tie.Need-add-last-48-bits
+add-last-48-bits c = let a = c .before .before .args in rw (c .before .signed-number .ensures, c .signed-number2 .ensures) (sum-fits (a .w) (a .s))
 
-cast-p : tie.Need-cast-p
-cast-p c =
+cast-last-48-bits : tie.Need-cast-last-48-bits
+cast-last-48-bits c =
     let a = c .before .before .args in
-    rw (c .before .signed-number .ensures, c .signed-number2 .ensures, sum-read (withOffset (a .w)) (withOffset (a .s)) (omega arith) (omega arith))
-    (tt, product-below (withOffset (a .w)) (withOffset (a .s)) (omega arith) (omega arith))
+    rw (c .before .signed-number .ensures, c .signed-number2 .ensures, sum-read (a .w) (a .s)) (tt, product-below (a .w) (a .s))
+
+last-48-bits-requires : tie.Need-last-48-bits-requires
+last-48-bits-requires c κs = search needs
 
 returns : tie.Need-returns
 returns c =
-    let a = c .before .before in
-    rw (
-      c .before .signed-number .ensures,
-      c .signed-number2 .ensures,
-      sum-read (withOffset (a .args .w)) (withOffset (a .args .s)) (omega arith) (omega arith),
-    )
+    let b = c .before in
+    let a = b .before .before in
+    rw (c .last-48-bits .ensures, b .before .signed-number .ensures, b .signed-number2 .ensures, sum-read (a .args .w) (a .args .s))
     (sym (steps-product (a .args .w) (a .args .s) (a .pre .0) (a .pre .1)), search needs)
 
 pub multiply-spec : {M : Type 1} → statement M
@@ -44,7 +38,8 @@ multiply-spec =
     (tie.spec
     signed-number-requires
     signed-number-requires-2
-    mul-p
-    add-p
-    cast-p
+    mul-last-48-bits
+    add-last-48-bits
+    cast-last-48-bits
+    last-48-bits-requires
     returns)
