@@ -1,16 +1,14 @@
 #!/usr/bin/env python3
 """Writes stdin and stdout of the crate cases_tape: load and remark cases, and what has to come of each.
 
-usage: tools/cases_tape.py [CASES ANSWERS]
+usage: tools/cases_tape.py CASES ANSWERS
 
-The stored files have 1,482 cases: the 299 made here and 1,183 that were given as two files, the load and remark cases that stood in
-host/vectors before E1. E1 and E2 changed neither call, and host/vectors now has fewer of them: with host/vectors/e2.cases and e2.answers
-other files come out, 1,023 cases, so work in a copy, and leave the stored ones as they are. The crate's file stdin has all 1,482.
+The stored files come out with host/vectors/e4.cases and host/vectors/e4.answers.
 
 The first part is made here: the paper's tape, tapes for every refusal, and for every pair of refusals that stand next to each other in
-document 01's order, tapes that earn both at one record. The judge below, written from document 01, answers them. With two files, in the
-format of `load` and `remark` requests and answers, line by line, these cases follow, with the answers of that file. Where the judge gives
-another answer nothing is written, and the exit status is 1.
+the order of document 01 (17 after 9 and before 10, document 02), tapes that earn both at one record; every kind of overlap of two blocks. The
+judge below, written from these documents, answers them. Then come the `load` and `remark` requests of the first file with the answers of the
+second, line by line. Where the judge gives another answer nothing is written, and the exit status is 1.
 """
 import os, struct, sys
 
@@ -39,7 +37,7 @@ def read(tape, n):
     """(refusal, blocks, control record, span of the first remark)"""
     if len(tape) > 65536:
         return 12, None, None, None
-    at, blocks, ctl, span = 0, [], None, None
+    at, blocks, named, ctl, span = 0, [], set(), None, None
     while True:
         if at + 6 > len(tape):
             return 6, None, None, None
@@ -57,6 +55,9 @@ def read(tape, n):
             first, cells = number(p[:4]), [number(p[i:i + 4]) for i in range(4, size, 4)]
             if first + len(cells) > n:
                 return 9, None, None, None
+            if not named.isdisjoint(range(first, first + len(cells))):
+                return 17, None, None, None
+            named.update(range(first, first + len(cells)))
             if any(x >= 1 << 27 for x in cells):
                 return 10, None, None, None
             blocks.append((first, cells))
@@ -114,7 +115,7 @@ BIG = 1 << 27
 
 
 def made():
-    good = [PAPER, block(0, 1, 2, 3) + ctl(2, 3, 4, 5) + END, block(7, BIG - 1) + ctl() + END, block(4, 1, 2, 3, 4) + block(5, 9, 8) + ctl() + END,
+    good = [PAPER, block(0, 1, 2, 3) + ctl(2, 3, 4, 5) + END, block(7, BIG - 1) + ctl() + END, block(4, 1, 2) + block(2, 9, 8) + ctl() + END,
             rec(4, b"") + ctl() + END, rec(4, b"one") + rec(4, b"two") + ctl() + END, block(0, 5) + rec(4, bytes(255)) + block(1, 6) + ctl() + END,
             ctl(16777215, 16777215, 16777215, 16777215, pr=255, ex=7, flags=3) + END, ctl(1, flags=0) + END, ctl(flags=1) + END, ctl(flags=2) + END,
             rec(4, b"x" * 10) * 4094 + PAPER]
@@ -125,6 +126,7 @@ def made():
               rec(1, bytes(4)) + PAPER, rec(1, b"") + PAPER, rec(1, bytes(9)) + PAPER, rec(2, bytes(19)) + END, rec(2, bytes(21)) + END,
               rec(2, bytes(24)) + END, ctl() + rec(3, b"a"), ctl() + rec(3, bytes(4)), rec(4, bytes(256)) + PAPER,          # 8
               block(8, 1) + PAPER, block(0, *range(9)) + PAPER, block(4294967295, 1) + PAPER, block(7, 1, 2) + PAPER,       # 9
+              block(4, 1, 2, 3, 4) + block(5, 9, 8) + PAPER, block(2, 1) + rec(4, b"") + block(2, 1) + PAPER,               # 17
               block(0, BIG) + PAPER, block(0, 1, 4294967295) + PAPER,                                                       # 10
               ctl(16777216) + END, ctl(0, 16777216) + END, ctl(0, 0, 16777216) + END, ctl(0, 0, 0, 16777216) + END, ctl(pr=127) + END,
               ctl(ex=8) + END, ctl(flags=8) + END, ctl(flags=13) + END, ctl(last=1) + END, ctl(flags=4) + END, ctl(flags=7) + END,   # 3
@@ -136,11 +138,22 @@ def made():
              rec(3, b"abc"), ctl() + rec(2, bytes(19)) + END, ctl() + rec(1, bytes(5)), ctl() + rec(4, bytes(256)), rec(3, b"", 1),    # 11, 8
              rec(1, b"", 7), rec(2, bytes(3), 21), ctl() + rec(3, b"", 5), rec(4, b"", 256), rec(1, b"", 4294967295),                # 8, 6
              block(9, 1, size=12), block(9, BIG, 1, size=16), rec(1, b"", 4294967292), rec(2, bytes(19), 20), rec(4, b"", 255),     # 6, 9; 6, 3
+             block(6, 1) + block(6, 1, 2, 3) + PAPER, block(0, 1) + block(0, *range(9)) + PAPER,                                       # 9, 17
+             block(6, 1) + block(6, BIG) + PAPER, block(3, 1) + block(2, 1, 2, BIG) + PAPER, block(3, 1) + block(2, BIG, 2) + PAPER,   # 17, 10
+             block(2, BIG) + block(2, 1) + PAPER, block(2, 1) + block(2, 1) + rec(9, b""),                                             # 10, 17 of the next
              block(8, BIG) + PAPER, block(7, 1, BIG) + PAPER, block(4294967295, BIG),                                                  # 9, 10
              block(0, BIG) + rec(9, b""), block(0, BIG) + ctl(16777216) + END, block(0, BIG),                                          # 10, 3 of the next
              ctl(16777216) + END + b"\0", ctl(flags=8, last=1) + END + END, ctl(pr=0) + rec(9, b""), ctl(pr=0) + block(0, 1),             # 3, 11
              PAPER + rec(9, b""), PAPER + b"\0" * 5, ctl() + rec(3, b"a") + END]                                                       # 11 after 8
+    # two blocks with every place of the second, then the same with another between and before them
+    blocks = [(a, k) for a in range(8) for k in range(1, 9 - a)]
+    overlaps = [block(3, 1, 2) + block(a, *range(k)) + PAPER for a, k in blocks]
+    overlaps += [block(3, 1, 2) + block(7, 1) + block(a, *range(k)) + PAPER for a, k in blocks if a + k < 8]
+    overlaps += [block(7, 1) + block(3, 1, 2) + block(a, *range(k)) + PAPER for a, k in blocks if a + k < 8]
     cells = {i: 16777216 * (i % 8) + i for i in range(4, 8)}
+    for t in overlaps:
+        yield "load", 8, cells, t, load(8, cells, t)
+        yield "remark", 8, {}, t, remark(8, t)
     for t in good + single + pairs:
         yield "load", 8, cells, t, load(8, cells, t)
         if len(t) < 1000 or t in good:
@@ -177,7 +190,7 @@ def expected(kind, tape, answer):
 
 
 def main():
-    cases = list(made()) + (list(given(*sys.argv[1:3])) if len(sys.argv) > 2 else [])
+    cases = list(made()) + list(given(*sys.argv[1:3]))
     data, lines = struct.pack("<I", len(cases)), []
     for kind, n, cells, tape, answer in cases:
         mine = load(n, cells, tape) if kind == "load" else remark(n, tape)

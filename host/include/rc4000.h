@@ -16,7 +16,7 @@
  * took and typed is handed back as a count; the next call is lent the
  * characters behind those taken and the bytes behind those typed.
  *
- * A call that is refused gives the refusal's number, 1 to 16, and leaves the
+ * A call that is refused gives the refusal's number, 1 to 17, and leaves the
  * store and the buffers as they were; where the result has a control record or
  * device buffer registers, they come back as given; every count is zero.
  *
@@ -104,8 +104,8 @@ enum {
 
 /* The refusals. The store is tested first (1, 2); then control record, lines,
  * budget and devices (3, 4, 5, 13), or the tape: its length (12), then record
- * by record; or, to write one, control record, remark, tape and buffer (3, 14,
- * 15, 16). */
+ * by record, of a block 9, 17, 10; or, to write one, control record, remark,
+ * tape and buffer (3, 14, 15, 16). */
 enum {
     RC4000_STORE_SIZE = 1,      /* fewer than 8 or more than 8388608 cells */
     RC4000_CELL_VALUE = 2,      /* a cell of 134217728 or more */
@@ -122,7 +122,8 @@ enum {
     RC4000_DEVICE = 13,         /* a reader character over 63, or a device buffer register over 24 bits */
     RC4000_REMARK_LENGTH = 14,  /* a remark over 255 bytes */
     RC4000_WRITTEN_LENGTH = 15, /* a machine whose tape would pass 65536 bytes */
-    RC4000_BUFFER_LENGTH = 16   /* a buffer shorter than the tape */
+    RC4000_BUFFER_LENGTH = 16,  /* a buffer shorter than the tape */
+    RC4000_BLOCK_OVERLAP = 17   /* a block names a cell that an earlier block of the tape names */
 };
 
 /* What a refusal means. The texts stand in the order of the numbers, from 0 on. */
@@ -145,6 +146,7 @@ static inline const char *rc4000_refusal_text(uint32_t number) {
         "a remark over 255 bytes",
         "a machine whose tape would pass 65,536 bytes",
         "a buffer shorter than the tape",
+        "a block names a cell that an earlier block of the tape names",
     };
     const uint32_t count = sizeof texts / sizeof texts[0];
     return number < count ? texts[number] : "no refusal has this number";
@@ -223,8 +225,8 @@ rc4000_autoloaded rc4000_press_autoload(uint32_t *store, size_t cells, rc4000_co
                                         rc4000_devices devices, const uint8_t *characters,
                                         size_t count);
 
-/* Loads a tape of at most 65536 bytes. The control record that comes back is
- * the tape's; the one given is not tested. */
+/* Loads a tape of at most 65536 bytes, whose blocks do not overlap. The control
+ * record that comes back is the tape's; the one given is not tested. */
 rc4000_state rc4000_load(uint32_t *store, size_t cells, rc4000_control control,
                          const uint8_t *tape, size_t length);
 

@@ -1,6 +1,7 @@
 pub mod Records
 pub mod Firsts
 pub mod Judged
+pub mod Named
 pub mod Loads
 pub mod Remarks
 pub mod Bytes

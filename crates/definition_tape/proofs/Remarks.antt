@@ -21,8 +21,8 @@ use Rattle.definition_tape.proofs.Judged.{Judged, last, more, reading-j
 none-whole : (t : List ℕ) → length t ≤ 0 → Whole t
 none-whole t h l = let no : ⊥ = omega arith in absurd no
 
-pub whole-first : {n : ℕ} {after : Bool} {t : List ℕ} (k : ℕ) → Judged n after t → Whole (firstOf k (recordsOf t))
-whole-first {n} {after} {t} k (last g e h) = at (ℕ-discrete (kindOf t) k)
+pub whole-first : {n : ℕ} {after : Bool} {earlier : List (List ℕ)} {t : List ℕ} (k : ℕ) → Judged n after earlier t → Whole (firstOf k (recordsOf t))
+whole-first {n} {after} {earlier} {t} k (last g e h) = at (ℕ-discrete (kindOf t) k)
   where
     at : Dec (kindOf t ≡ k) → Whole (firstOf k (recordsOf t))
     at (yes e) = let w = g .whole in rw (first-here k t (omega arith) e) (λ l. w)
@@ -30,7 +30,7 @@ whole-first {n} {after} {t} k (last g e h) = at (ℕ-discrete (kindOf t) k)
         let w = g .whole in
         rw (first-next k t (omega arith) e, first-none k (restOf t) (omega (arith, length-rest t)))
         (none-whole [] (omega arith))
-whole-first {n} {after} {t} k (more g e j) = at (ℕ-discrete (kindOf t) k) (whole-first k j)
+whole-first {n} {after} {earlier} {t} k (more g e j) = at (ℕ-discrete (kindOf t) k) (whole-first k j)
   where
     at : Dec (kindOf t ≡ k) → Whole (firstOf k (recordsOf (restOf t))) → Whole (firstOf k (recordsOf t))
     at (yes e) ih = let w = g .whole in rw (first-here k t (omega arith) e) (λ l. w)

@@ -1,13 +1,34 @@
--- The blocks of a store: its longest stretches of cells that are not zero, in rising order (document 02, E2).
--- A cell is zero where all its bits are: a key with no word is written.
+-- Blocks: the cells that they name (document 02, E4), and those of a store (document 02, E2).
 -- Assumes nothing.
-use Prim.Native.Nat.{ℕ, zero, suc, _+_}
+use Prim.Native.Nat.{ℕ, zero, suc, _+_, _≤_, _<_}
 use mathlib.Core.Bool.{Bool, true, false}
 use mathlib.Core.List.{List, [], _∷_}
+use mathlib.Core.Logic.{_⊎_}
+use lib.ListN.{length}
 
 pub record Block : Type 0 where
   pub first : ℕ
   pub cells : List ℕ
+
+-- ---- the cells that blocks name
+
+-- the block b names the cell i
+pub record Names (b : Block) (i : ℕ) : Type 0 where
+  pub from : b .first ≤ i
+  pub below : i < b .first + length (b .cells)
+
+-- one of the blocks names the cell i
+unfoldable pub Named : ℕ → List Block → Type 0
+Named i [] = ⊥
+Named i (b ∷ bs) = Names b i ⊎ Named i bs
+
+-- no cell is named twice: none that a block names is named by one after it
+unfoldable pub NamedOnce : List Block → Type 0
+NamedOnce [] = Unit {0}
+NamedOnce (b ∷ bs) = ((i : ℕ) → Names b i → Named i bs → ⊥) × NamedOnce bs
+
+-- ---- the blocks of a store: its longest stretches of cells that are not zero, in rising order
+-- A cell is zero where all its bits are: a key with no word is written.
 
 -- the cells before the first one that is zero
 unfoldable pub stretch : List ℕ → List ℕ

@@ -5,6 +5,8 @@ use mathlib.Core.Bool.{Bool, true, false}
 use mathlib.Core.Path.{_≡_, refl}
 use mathlib.Core.Option.{none, some}
 use mathlib.Core.List.{List, [], _∷_, _++_}
+use mathlib.Core.Logic.{_⊎_, inl, inr}
+use native.Mathlib.Omega.{arith}
 use lib.ListN.{take, drop, replicate}
 use Rattle.machine.specs.Answers.{verdictNumber}
 use Rattle.machine.specs.Records.{freshRecord}
@@ -13,16 +15,16 @@ use Rattle.machine.specs.declared.Refusal.the-variants.{RecordKind, RecordOrder
 use Rattle.machine.specs.declared.Verdict.the-variants.{Accepted, Rejected}
 use Rattle.acceptance.specs.Accept.{sizeFits, cellsFit, stateFits, controlFits, judgeStore, judgeMachine}
 use Rattle.definition_tape.specs.Layout.{lengthOf, kindOf, payloadOf, restOf, recordsWithin, recordsOf, firstOf, cellsFrom, blockCells, controlOf}
-use Rattle.definition_tape.specs.Judge.{kindKnown, inOrder, lengthFits, judgeBlock, controlGood, judgeControl, judgePayload, judgeRecord, judgeRecords, judgeTape}
+use Rattle.definition_tape.specs.Judge.{kindKnown, inOrder, lengthFits, judgeBlock, controlGood, judgeControl, judgePayload, judgeRecord, names, timesNamed, unnamedFrom, judgeRecords, judgeTape}
 use Rattle.definition_tape.specs.Load.{pasted, storedBlock, loadRecord, loadRecords, loadedControl, judgeLoad, loading}
-use Rattle.definition_tape.specs.Blocks.{stretch, blocksFrom, storeBlocks}
+use Rattle.definition_tape.specs.Blocks.{Block, Names, Named, NamedOnce, stretch, blocksFrom, storeBlocks}
 use Rattle.definition_tape.specs.Bytes.{headerBytes, recordBytes, cellsBytes, blockBytes, blocksBytes, controlBytes, remarkRecord, tapeOf}
 use Rattle.definition_tape.specs.Writing.{remarkFits, judgeSize, judgeParts, judgeWriting, writingBy, writing}
 use Rattle.definition_tape.specs.Remark.{judgeReading, noSpan, remarkSpan, placeFrom}
 
 -- opens what a tape is read by
 unfoldable pub opened : ℕ
-unfolding lengthOf kindOf payloadOf restOf recordsWithin recordsOf firstOf controlOf kindKnown inOrder lengthFits controlGood judgeControl judgePayload judgeRecord judgeRecords judgeTape sizeFits cellsFit stateFits controlFits judgeStore loadRecord loadRecords loadedControl judgeLoad loading judgeReading remarkSpan cellsFrom blockCells judgeBlock pasted storedBlock
+unfolding lengthOf kindOf payloadOf restOf recordsWithin recordsOf firstOf controlOf kindKnown inOrder lengthFits controlGood judgeControl judgePayload judgeRecord names timesNamed unnamedFrom judgeRecords judgeTape sizeFits cellsFit stateFits controlFits judgeStore loadRecord loadRecords loadedControl judgeLoad loading judgeReading remarkSpan cellsFrom blockCells judgeBlock pasted storedBlock
 opened = 0
 
 -- with flags f and the last byte z
@@ -84,6 +86,48 @@ pub bytes-tape : (c : Control)
     }
 unfolding opened
 bytes-tape c = refl
+
+-- ---- 17
+
+-- a block of two cells at the cell i, none of them zero
+abbrev pub blockAt : ℕ → List ℕ
+blockAt i = 12 ∷ 0 ∷ 0 ∷ 0 ∷ 1 ∷ 0 ∷ i ∷ 0 ∷ 0 ∷ 0 ∷ 1 ∷ 0 ∷ 0 ∷ 0 ∷ 2 ∷ 0 ∷ 0 ∷ 0 ∷ []
+
+-- blocks of two cells at the cells i, j and 2, in this order, with a remark after the first, for a store of 8 cells
+abbrev pub threeBlocks : ℕ → ℕ → ℕ
+threeBlocks i j = verdictNumber (judgeTape 8 (blockAt i ++ (0 ∷ 0 ∷ 0 ∷ 0 ∷ 4 ∷ 0 ∷ blockAt j ++ (blockAt 2 ++ scopeTape))))
+
+-- the last block touches others on both sides, equals one, has a cell of the block just before or of the first
+pub overlaps : (threeBlocks 0 4 ≡ 0) × (threeBlocks 4 0 ≡ 0) × (threeBlocks 2 6 ≡ 17) × (threeBlocks 6 1 ≡ 17) × (threeBlocks 3 6 ≡ 17)
+unfolding opened
+overlaps = (refl, refl, refl, refl, refl)
+
+-- a block of one cell, of 134,217,728, at the cell i, after blocks of two cells at 0 and 6: 9 before 17, 17 before 10
+abbrev pub badCell : ℕ → ℕ
+badCell i = verdictNumber (judgeTape 8 (blockAt 0 ++ (blockAt 6 ++ (8 ∷ 0 ∷ 0 ∷ 0 ∷ 1 ∷ 0 ∷ i ∷ 0 ∷ 0 ∷ 0 ∷ 0 ∷ 0 ∷ 0 ∷ 8 ∷ scopeTape))))
+
+pub overlap-order : (badCell 8 ≡ 9) × (badCell 7 ≡ 17) × (badCell 1 ≡ 17) × (badCell 2 ≡ 10) × (verdictNumber (judgeTape 8 (blockAt 6 ++ (blockAt 7 ++ scopeTape))) ≡ 9)
+unfolding opened
+overlap-order = (refl, refl, refl, refl, refl)
+
+-- blocks of two cells that touch name no cell twice; the first and the last of three name the cell 3
+abbrev pub pairAt : ℕ → Block
+pairAt i = record { first = i; cells = 1 ∷ 2 ∷ [] }
+
+pub touching : NamedOnce (pairAt 2 ∷ pairAt 4 ∷ pairAt 0 ∷ [])
+unfolding NamedOnce Named
+touching = (at, (by, (λ i n m. m, tt)))
+  where
+    at : (i : ℕ) → Names (pairAt 2) i → Names (pairAt 4) i ⊎ (Names (pairAt 0) i ⊎ ⊥) → ⊥
+    at i n (inl m) = omega (arith, n .below, m .from)
+    at i n (inr (inl m)) = omega (arith, n .from, m .below)
+
+    by : (i : ℕ) → Names (pairAt 4) i → Names (pairAt 0) i ⊎ ⊥ → ⊥
+    by i n (inl m) = omega (arith, n .from, m .below)
+
+pub overlapping : NamedOnce (pairAt 2 ∷ pairAt 6 ∷ pairAt 3 ∷ []) → ⊥
+unfolding NamedOnce Named
+overlapping o = o .0 3 (record { from = omega arith; below = omega arith }) (inr (inl (record { from = omega arith; below = omega arith })))
 
 -- flags over 7 and a last byte other than zero are 3
 pub flags-8 : verdictNumber (judgeTape 8 (controlTape 8 0)) ≡ 3

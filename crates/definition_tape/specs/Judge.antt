@@ -1,11 +1,11 @@
 -- The refusal of a tape (document 01, "Who can be refused, for what": whoever punched the tape), for a store of n cells.
 -- Assumes nothing.
-use Prim.Native.Nat.{ℕ, _+_, _%_}
-use mathlib.Core.Bool.{Bool, false, not, cond}
+use Prim.Native.Nat.{ℕ, zero, suc, _+_, _%_}
+use mathlib.Core.Bool.{Bool, true, false, not, cond}
 use mathlib.Core.List.{List, [], _∷_}
 use lib.ListN.{length}
 use lib.Dec.{eqb, ltb, leb}
-use Rattle.machine.specs.declared.Refusal.the-variants.{ControlField, TapeEnds, RecordKind, RecordLength, BlockPlace, BlockCell, RecordOrder, TapeLength}
+use Rattle.machine.specs.declared.Refusal.the-variants.{ControlField, TapeEnds, RecordKind, RecordLength, BlockPlace, BlockCell, RecordOrder, TapeLength, BlockOverlap}
 use Rattle.machine.specs.declared.Verdict.{Verdict}
 use Rattle.machine.specs.declared.Verdict.the-variants.{Accepted, Rejected}
 use Rattle.acceptance.specs.Accept.{cellsFit, controlFits}
@@ -25,9 +25,10 @@ inOrder after k = cond after (eqb k 3) (not (eqb k 3))
 unfoldable pub lengthFits : ℕ → ℕ → Bool
 lengthFits k l = cond (eqb k 1) (cond (eqb (l % 4) 0) (leb 8 l) false) (cond (eqb k 2) (eqb l 20) (cond (eqb k 3) (eqb l 0) (leb l 255)))
 
--- 9: block beyond the store; 10: a cell as in 2
-unfoldable pub judgeBlock : ℕ → List ℕ → Verdict
-judgeBlock n p = cond (leb (firstCell p + cellCount p) n) (cond (cellsFit (blockCells p)) Accepted (Rejected BlockCell)) (Rejected BlockPlace)
+-- 9: block beyond the store; 17: it names a cell that an earlier block names; 10: a cell as in 2. `unnamed`: no earlier block names a cell of it
+unfoldable pub judgeBlock : ℕ → Bool → List ℕ → Verdict
+judgeBlock n unnamed p =
+    cond (leb (firstCell p + cellCount p) n) (cond unnamed (cond (cellsFit (blockCells p)) Accepted (Rejected BlockCell)) (Rejected BlockOverlap)) (Rejected BlockPlace)
 
 -- 3: a control field outside its widths and rules, flags over 7, a last byte other than zero
 unfoldable pub controlGood : List ℕ → Bool
@@ -36,17 +37,37 @@ controlGood p = cond (leb (flagsOf p) 7) (cond (eqb (lastByte p) 0) (controlFits
 unfoldable pub judgeControl : List ℕ → Verdict
 judgeControl p = cond (controlGood p) Accepted (Rejected ControlField)
 
-unfoldable pub judgePayload : ℕ → ℕ → List ℕ → Verdict
-judgePayload n k p = cond (eqb k 1) (judgeBlock n p) (cond (eqb k 2) (judgeControl p) Accepted)
+unfoldable pub judgePayload : ℕ → Bool → ℕ → List ℕ → Verdict
+judgePayload n unnamed k p = cond (eqb k 1) (judgeBlock n unnamed p) (cond (eqb k 2) (judgeControl p) Accepted)
 
 -- a record whose header stands at the start of t; `after`: the record before it was the control record
-unfoldable pub judgeRecord : ℕ → Bool → List ℕ → Verdict
-judgeRecord n after t =
+unfoldable pub judgeRecord : ℕ → Bool → Bool → List ℕ → Verdict
+judgeRecord n after unnamed t =
     cond (kindKnown (kindOf t))
     (cond (inOrder after (kindOf t))
     (cond (lengthFits (kindOf t) (lengthOf t))
-    (cond (leb (6 + lengthOf t) (length t)) (judgePayload n (kindOf t) (payloadOf t)) (Rejected TapeEnds)) (Rejected RecordLength)) (Rejected RecordOrder))
+    (cond (leb (6 + lengthOf t) (length t)) (judgePayload n unnamed (kindOf t) (payloadOf t)) (Rejected TapeEnds)) (Rejected RecordLength)) (Rejected RecordOrder))
     (Rejected RecordKind)
+
+-- ---- the cells that earlier records name
+
+-- the record t is a block that names the cell i
+unfoldable pub names : List ℕ → ℕ → Bool
+names t i = let p = payloadOf t in cond (eqb (kindOf t) 1) (cond (leb (firstCell p) i) (ltb i (firstCell p + cellCount p)) false) false
+
+-- how many of the records name the cell i
+unfoldable pub timesNamed : List (List ℕ) → ℕ → ℕ
+timesNamed [] i = 0
+timesNamed (t ∷ ts) i = cond (names t i) 1 0 + timesNamed ts i
+
+-- none of the records names one of the k cells from i on
+unfoldable pub unnamedFrom : List (List ℕ) → ℕ → ℕ → Bool
+unnamedFrom ts i zero = true
+unnamedFrom ts i (suc k) = let rest = unnamedFrom ts (i + 1) k in cond (eqb (timesNamed ts i) 0) rest false
+
+-- none of them names a cell of the block with the payload p
+abbrev pub unnamedCells : List (List ℕ) → List ℕ → Bool
+unnamedCells ts p = unnamedFrom ts (firstCell p) (cellCount p)
 
 -- ---- record by record from the left
 
@@ -55,10 +76,12 @@ abbrev pub judgeAfter : Verdict → List ℕ → Verdict → Verdict
 judgeAfter (Rejected r) t rest = Rejected r
 judgeAfter Accepted t rest = cond (eqb (kindOf t) 3) (cond (leb (length t) (6 + lengthOf t)) Accepted (Rejected RecordOrder)) rest
 
--- 6: the tape stops inside a header, or before an end record
-unfoldable pub judgeRecords : ℕ → Bool → List (List ℕ) → Verdict
-judgeRecords n after [] = Rejected TapeEnds
-judgeRecords n after (t ∷ ts) = let rest = judgeRecords n (eqb (kindOf t) 2) ts in judgeAfter (judgeRecord n after t) t rest
+-- 6: the tape stops inside a header, or before an end record. `earlier`: the records before
+unfoldable pub judgeRecords : ℕ → Bool → List (List ℕ) → List (List ℕ) → Verdict
+judgeRecords n after earlier [] = Rejected TapeEnds
+judgeRecords n after earlier (t ∷ ts) =
+    let rest = judgeRecords n (eqb (kindOf t) 2) (t ∷ earlier) ts in
+    judgeAfter (judgeRecord n after (unnamedCells earlier (payloadOf t)) t) t rest
 
 -- the bytes of the longest tape
 abbrev pub mostBytes : ℕ
@@ -66,4 +89,4 @@ mostBytes = 65536
 
 -- 12 first: over 65,536 bytes
 unfoldable pub judgeTape : ℕ → List ℕ → Verdict
-judgeTape n t = cond (leb (length t) mostBytes) (judgeRecords n false (recordsOf t)) (Rejected TapeLength)
+judgeTape n t = cond (leb (length t) mostBytes) (judgeRecords n false [] (recordsOf t)) (Rejected TapeLength)

@@ -2,6 +2,7 @@
 -- A record is spoken of by the tape from its header on. A byte that is not there reads as 0.
 -- Assumes nothing.
 use Prim.Native.Nat.{ℕ, zero, suc, _+_, _-_, _*_, _/_, _%_, _≤_, _<_}
+use mathlib.Core.Path.{_≡_}
 use mathlib.Core.Bool.{cond}
 use mathlib.Core.List.{List, [], _∷_}
 use lib.ListN.{length, take, drop, getD}
@@ -58,6 +59,12 @@ cellsFrom p at (suc k) = numberAt p at ∷ cellsFrom p (at + 4) k
 
 unfoldable pub blockCells : List ℕ → List ℕ
 blockCells p = cellsFrom p 4 (cellCount p)
+
+-- the record t is a block that names the cell i
+pub record NamesCell (t : List ℕ) (i : ℕ) : Type 0 where
+  pub kind : kindOf t ≡ 1
+  pub from : firstCell (payloadOf t) ≤ i
+  pub below : i < firstCell (payloadOf t) + cellCount (payloadOf t)
 
 -- ---- a control record's payload: IC, IR, IM, pending (4 each), PR, EX, flags (1 each: 1 monitor, 2 enabled, 4 reset, summed), a zero byte
 abbrev pub flagsOf : List ℕ → ℕ

@@ -6,7 +6,7 @@ use Rattle.machine.specs.declared.Kind.the-variants.{Exception, Line}
 use Rattle.machine.specs.declared.Verdict.{Verdict}
 use Rattle.machine.specs.declared.Verdict.the-variants.{Accepted, Rejected}
 use Rattle.machine.specs.declared.Refusal.{Refusal}
-use Rattle.machine.specs.declared.Refusal.the-variants.{StoreSize, CellValue, ControlField, Lines, Budget, TapeEnds, RecordKind, RecordLength, BlockPlace, BlockCell, RecordOrder, TapeLength, Device, RemarkLength, WrittenLength, BufferLength}
+use Rattle.machine.specs.declared.Refusal.the-variants.{StoreSize, CellValue, ControlField, Lines, Budget, TapeEnds, RecordKind, RecordLength, BlockPlace, BlockCell, RecordOrder, TapeLength, Device, RemarkLength, WrittenLength, BufferLength, BlockOverlap}
 
 -- document 01, "Who can be refused, for what"
 abbrev pub refusalNumber : Refusal → ℕ
@@ -42,6 +42,8 @@ refusalNumber RemarkLength = 14
 refusalNumber WrittenLength = 15
 -- an output buffer shorter than the tape
 refusalNumber BufferLength = 16
+-- document 02, E4: a block names a cell that an earlier block of the tape names
+refusalNumber BlockOverlap = 17
 
 -- 0: not refused
 abbrev pub verdictNumber : Verdict → ℕ

@@ -157,6 +157,7 @@ pub enum Refusal {
     RemarkLength,
     WrittenLength,
     BufferLength,
+    BlockOverlap,
 }
 
 impl Refusal {
@@ -180,6 +181,7 @@ impl Refusal {
             Refusal::RemarkLength => 14,
             Refusal::WrittenLength => 15,
             Refusal::BufferLength => 16,
+            Refusal::BlockOverlap => 17,
         }
     }
 }

@@ -22,5 +22,5 @@ abbrev pub stepBy : Verdict → List ℕ → Step
 stepBy (Rejected r) t = Done (Rejected r)
 stepBy Accepted t = stepAfter t
 
-unfoldable pub stepOf : ℕ → Bool → List ℕ → Step
-stepOf n after t = cond (ltb (length t) 6) (Done (Rejected TapeEnds)) (stepBy (judgeRecord n after t) t)
+unfoldable pub stepOf : ℕ → Bool → Bool → List ℕ → Step
+stepOf n after unnamed t = cond (ltb (length t) 6) (Done (Rejected TapeEnds)) (stepBy (judgeRecord n after unnamed t) t)

@@ -1,6 +1,7 @@
 // The judge of a load tape (document 01, "Load tape").
 ghost use mathlib.Core.Path.{_≡_};
 ghost use mathlib.Core.Bool.{true, false};
+ghost use mathlib.Core.List.{[]};
 ghost use Prim.Native.Nat.{_+_, _*_, _≤_};
 ghost use lib.ListN.{length};
 ghost use Rattle.acceptance.specs.Accept.{cellsFit};
@@ -69,14 +70,18 @@ fn block_cells_fit(p: &[u8], k: usize) -> bool
     true
 }
 
-fn judge_block(p: &[u8], cells: usize) -> Verdict
+// `unnamed`: no earlier block names a cell of this one.
+fn judge_block(p: &[u8], cells: usize, unnamed: bool) -> Verdict
     requires { ⌜ 4 ≤ length (now p) ⌝ }
-    ensures { λ r. ⌜ r ≡ judgeBlock cells (now (p .entry)) ⌝ }
+    ensures { λ r. ⌜ r ≡ judgeBlock cells unnamed (now (p .entry)) ⌝ }
 {
     let first = number_at(p, 0) as usize;
     let k = (p.len() - 4) / 4;
     if first + k > cells {
         return Verdict::Rejected(Refusal::BlockPlace);
+    }
+    if !unnamed {
+        return Verdict::Rejected(Refusal::BlockOverlap);
     }
     if !block_cells_fit(p, k) {
         return Verdict::Rejected(Refusal::BlockCell);
@@ -108,12 +113,12 @@ fn judge_control(p: &[u8]) -> Verdict
     Verdict::Accepted
 }
 
-fn judge_payload(p: &[u8], k: u32, cells: usize) -> Verdict
+fn judge_payload(p: &[u8], k: u32, cells: usize, unnamed: bool) -> Verdict
     requires { ⌜ lengthFits k (length (now p)) ≡ true ⌝ }
-    ensures { λ r. ⌜ r ≡ judgePayload cells k (now (p .entry)) ⌝ }
+    ensures { λ r. ⌜ r ≡ judgePayload cells unnamed k (now (p .entry)) ⌝ }
 {
     if k == 1 {
-        return judge_block(p, cells);
+        return judge_block(p, cells, unnamed);
     }
     if k == 2 {
         return judge_control(p);
@@ -121,9 +126,9 @@ fn judge_payload(p: &[u8], k: u32, cells: usize) -> Verdict
     Verdict::Accepted
 }
 
-fn judge_record(t: &[u8], cells: usize, after: bool) -> Verdict
+fn judge_record(t: &[u8], cells: usize, after: bool, unnamed: bool) -> Verdict
     requires { ⌜ 6 ≤ length (now t) ⌝ }
-    ensures { λ r. ⌜ r ≡ judgeRecord cells after (now (t .entry)) ⌝ }
+    ensures { λ r. ⌜ r ≡ judgeRecord cells after unnamed (now (t .entry)) ⌝ }
 {
     let k = record_kind(t);
     let l = record_length(t);
@@ -140,7 +145,7 @@ fn judge_record(t: &[u8], cells: usize, after: bool) -> Verdict
         return Verdict::Rejected(Refusal::TapeEnds);
     }
     let p = payload(t);
-    judge_payload(p, k, cells)
+    judge_payload(p, k, cells, unnamed)
 }
 
 // ---- the judge, record by record
@@ -166,13 +171,13 @@ fn step_after(t: &[u8]) -> Step
     Step::Done(Verdict::Accepted)
 }
 
-fn judge_step(t: &[u8], cells: usize, after: bool) -> Step
-    ensures { λ r. ⌜ r ≡ stepOf cells after (now (t .entry)) ⌝ }
+fn judge_step(t: &[u8], cells: usize, after: bool, unnamed: bool) -> Step
+    ensures { λ r. ⌜ r ≡ stepOf cells after unnamed (now (t .entry)) ⌝ }
 {
     if t.len() < 6 {
         return Step::Done(Verdict::Rejected(Refusal::TapeEnds));
     }
-    let v = judge_record(t, cells, after);
+    let v = judge_record(t, cells, after, unnamed);
     match v {
         Verdict::Accepted => step_after(t),
         Verdict::Rejected(r) => Step::Done(Verdict::Rejected(r)),
@@ -180,18 +185,22 @@ fn judge_step(t: &[u8], cells: usize, after: bool) -> Step
 }
 
 fn judge_records(tape: &[u8], cells: usize) -> Verdict
-    ensures { λ r. ⌜ r ≡ judgeRecords cells false (recordsOf (now (tape .entry))) ⌝ }
+    ensures { λ r. ⌜ r ≡ judgeRecords cells false [] (recordsOf (now (tape .entry))) ⌝ }
 {
+    let first = tape_overlap::first_again(tape, cells);
     let mut at: usize = 0;
+    let mut n: usize = 0;
     let mut after = false;
     loop {
-        let s = judge_step(&tape[at..], cells, after);
+        let unnamed = n != first;
+        let s = judge_step(&tape[at..], cells, after, unnamed);
         match s {
             Step::Done(v) => {
                 return v;
             }
-            Step::Advance(n, control) => {
-                at += n;
+            Step::Advance(bytes, control) => {
+                at += bytes;
+                n += 1;
                 after = control;
             }
         }

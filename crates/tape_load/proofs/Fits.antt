@@ -14,14 +14,14 @@ use Rattle.definition_tape.proofs.Firsts.{first-here, first-next}
 use Rattle.definition_tape.proofs.Judged.{Good, Judged, last, more, block-length, block-payload, control-length, no-end}
 use Rattle.tape_load.specs.Fits.{RecordFits, RecordsFit, ControlThere}
 
-record-fits : {n : ℕ} {after : Bool} {t : List ℕ} → Good n after t → RecordFits n t
-record-fits {n} {after} {t} g =
+record-fits : {n : ℕ} {after u : Bool} {t : List ℕ} → Good n after u t → RecordFits n t
+record-fits {n} {after} {u} {t} g =
     record {
       whole = g .whole;
       block =
           λ e.
           let l = block-length (lengthOf t) (rw e at (g .size)) in
-          let p = block-payload n (payloadOf t) (rw e at (g .payload)) in
+          let p = block-payload n u (payloadOf t) (rw e at (g .payload)) in
           (omega arith, p .0);
     }
 
@@ -37,22 +37,22 @@ pub fits-split : (n : ℕ) (t : List ℕ) → 6 ≤ length t → RecordsFit n (r
 unfolding RecordsFit
 fits-split n t h r = rw (records-more t h) at r
 
-pub records-fit : {n : ℕ} {after : Bool} {t : List ℕ} → Judged n after t → RecordsFit n (recordsOf t)
-records-fit {n} {after} {t} (last g k h) =
+pub records-fit : {n : ℕ} {after : Bool} {earlier : List (List ℕ)} {t : List ℕ} → Judged n after earlier t → RecordsFit n (recordsOf t)
+records-fit {n} {after} {earlier} {t} (last g k h) =
     let w = g .whole in
     fits-more n t (omega arith) (record-fits g) (fits-none n (restOf t) (omega (arith, length-rest t)))
-records-fit {n} {after} {t} (more g k j) = let w = g .whole in fits-more n t (omega arith) (record-fits g) (records-fit j)
+records-fit {n} {after} {earlier} {t} (more g k j) = let w = g .whole in fits-more n t (omega arith) (record-fits g) (records-fit j)
 
 -- ---- an accepted tape has a control record
-control-here : (n : ℕ) (after : Bool) (t : List ℕ) → Good n after t → kindOf t ≡ 2 → ControlThere t
-control-here n after t g e =
+control-here : (n : ℕ) (after u : Bool) (t : List ℕ) → Good n after u t → kindOf t ≡ 2 → ControlThere t
+control-here n after u t g e =
     let l = control-length (lengthOf t) (rw e at (g .size)) in
     record { whole = g .whole; size = omega arith }
 
-pub control-there : {n : ℕ} {after : Bool} {t : List ℕ} → Judged n after t → after ≡ false → ControlThere (firstOf 2 (recordsOf t))
-control-there {n} {after} {t} (last g k h) a = absurd (no-end n after t g k a)
-control-there {n} {after} {t} (more g k j) a = at (ℕ-discrete (kindOf t) 2) (control-there j)
+pub control-there : {n : ℕ} {after : Bool} {earlier : List (List ℕ)} {t : List ℕ} → Judged n after earlier t → after ≡ false → ControlThere (firstOf 2 (recordsOf t))
+control-there {n} {after} {earlier} {t} (last g k h) a = absurd (no-end n after _ t g k a)
+control-there {n} {after} {earlier} {t} (more g k j) a = at (ℕ-discrete (kindOf t) 2) (control-there j)
   where
     at : Dec (kindOf t ≡ 2) → (eqb (kindOf t) 2 ≡ false → ControlThere (firstOf 2 (recordsOf (restOf t)))) → ControlThere (firstOf 2 (recordsOf t))
-    at (yes e) ih = let w = g .whole in rw (first-here 2 t (omega arith) e) (control-here n after t g e)
+    at (yes e) ih = let w = g .whole in rw (first-here 2 t (omega arith) e) (control-here n after _ t g e)
     at (no e) ih = let w = g .whole in rw (first-next 2 t (omega arith) e) (ih (ne-eqb (kindOf t) 2 e))

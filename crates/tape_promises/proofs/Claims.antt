@@ -1,33 +1,48 @@
 -- The proofs of specs/Claims.antt on what is accepted, loaded and read. Assumes nothing.
-use Prim.Native.Nat.{ℕ}
-use mathlib.Core.Path.{_≡_, refl, sym}
+use Prim.Native.Nat.{ℕ, _≤_}
+use mathlib.Core.Path.{_≡_, refl, sym, _∙_}
 use mathlib.Core.Bool.{Bool, true, false, cond}
-use mathlib.Core.List.{List}
+use mathlib.Core.List.{List, []}
 use native.Mathlib.Omega.{arith}
 use borrow.Author.Tests.{le-leb}
 use lib.ListN.{length, getD}
+use lib.Seq.{ext-getD}
 use Rattle.machine.specs.declared.Refusal.the-variants.{CellValue, StoreSize}
 use Rattle.machine.specs.declared.Verdict.{Verdict}
 use Rattle.machine.specs.declared.Verdict.the-variants.{Accepted, Rejected}
 use Rattle.acceptance.proofs.Tests.{passed, refused}
 use Rattle.acceptance.specs.Accept.{sizeFits, cellsFit, judgeStore, judgeMachine}
 use Rattle.definition_tape.specs.Layout.{recordsOf}
-use Rattle.definition_tape.specs.Judge.{judgeTape}
+use Rattle.definition_tape.specs.Judge.{judgeTape, timesNamed}
 use Rattle.definition_tape.specs.Load.{loadRecords, loadedControl, judgeThen, judgeLoad, loadedBy, loading}
 use Rattle.definition_tape.specs.Remark.{judgeReading, remarkSpan, remarkText}
 use Rattle.definition_tape.proofs.Judged.{judged-back, tape-judged, passed-then}
 use Rattle.definition_tape.proofs.Remarks.{remark-part as part}
 use Rattle.tape_promises.specs.Grammar.{TapeFor}
-use Rattle.tape_promises.specs.Claims.{AcceptedTapes, LoadsLayout, KeptCells, KeptSize, KeptAll, LoadedMachines, SameVerdict, FirstRemark, RemarkPart}
+use Rattle.tape_promises.specs.Claims.{AcceptedTapes, NoCellTwice, LoadsLayout, KeptCells, AnyOrder, KeptSize, KeptAll, LoadedMachines, SameVerdict, FirstRemark, RemarkPart}
 use Rattle.tape_promises.proofs.Grammars.{grammar, judged-of}
-use Rattle.tape_promises.proofs.Contents.{only-kept, size-loaded, cells-loaded, cells-fit, control-is, control-payload-good, control-fields, span-is, text-is}
+use Rattle.tape_promises.proofs.Once.{judged-once, once-blocks, blocks-once, names-two}
+use Rattle.tape_promises.proofs.Contents.{only-kept, same-cell, size-loaded, cells-loaded, cells-fit, control-is, control-payload-good, control-fields, span-is, text-is}
+
+none-named : (i : ℕ) → timesNamed [] i ≤ 1
+unfolding timesNamed
+none-named i = omega arith
 
 pub accepted-tapes : AcceptedTapes
 unfolding judgeTape
 accepted-tapes n t = (
-  λ e. let j = tape-judged n t e in record { size = j .0; layout = grammar (j .1) refl },
-  λ h. rw (le-leb (length t) 65536 (h .size)) (judged-back (judged-of (h .layout))),
+  λ e.
+      let j = tape-judged n t e in
+      let r = grammar (j .1) refl in
+      record { size = j .0; layout = r; once = once-blocks r (judged-once (j .1) none-named) },
+  λ h. rw (le-leb (length t) 65536 (h .size)) (judged-back (judged-of [] (h .layout) (blocks-once (h .layout) (h .once)))),
 )
+
+pub no-cell-twice : NoCellTwice
+no-cell-twice n t e j k i l a b =
+    let o = judged-once (tape-judged n t e .1) none-named i in
+    let m = names-two (recordsOf t) j k i l a b in
+    omega (arith, none-named i)
 
 -- ---- what is loaded
 
@@ -44,7 +59,7 @@ unfolding loading loadedControl
 loads-layout t s c e h =
     let r = h .layout in
     rw (load-accepted t s e h)
-    (record { accepted = refl; size = size-loaded s r refl; cells = cells-loaded s r refl; control = rw (control-is r) (control-fields r) })
+    (record { accepted = refl; size = size-loaded s r refl; cells = cells-loaded s r refl (h .once); control = rw (control-is r) (control-fields r) })
 
 pub kept-cells : KeptCells
 unfolding loading
@@ -52,7 +67,20 @@ kept-cells t s c h i u = at (judgeLoad t s)
   where
     at : (v : Verdict) → getD (loadedBy v t s c .cells) i 0 ≡ getD s i 0
     at (Rejected q) = refl
-    at Accepted = only-kept (cells-loaded s (h .layout) refl i) u
+    at Accepted = only-kept (cells-loaded s (h .layout) refl (h .once) i) u
+
+pub any-order : AnyOrder
+unfolding loading judgeLoad
+any-order t u s c d h k e = at (judgeStore s)
+  where
+    cells : loadRecords s (recordsOf t) ≡ loadRecords s (recordsOf u)
+    cells =
+        ext-getD 0 (loadRecords s (recordsOf t)) (loadRecords s (recordsOf u)) (size-loaded s (h .layout) refl ∙ sym (size-loaded s (k .layout) refl))
+        (λ i l. same-cell e (cells-loaded s (h .layout) refl (h .once) i) (cells-loaded s (k .layout) refl (k .once) i))
+
+    at : (v : Verdict) → loadedBy (judgeThen v (judgeTape (length s) t)) t s c .cells ≡ loadedBy (judgeThen v (judgeTape (length s) u)) u s d .cells
+    at (Rejected q) = refl
+    at Accepted = rw (accepted-tapes (length s) t .1 h, accepted-tapes (length s) u .1 k) cells
 
 pub kept-size : KeptSize
 unfolding loading

@@ -2,7 +2,8 @@
 use Prim.Native.Nat.{ℕ, zero, suc, _+_, _-_, _*_, _/_, _%_, _≤_, _<_}
 use mathlib.Core.Path.{_≡_, refl, sym, ap, subst, _∙_}
 use mathlib.Core.Bool.{Bool, true, false}
-use mathlib.Core.List.{List, [], _∷_, _++_, append-nil}
+use mathlib.Core.List.{List, [], _∷_, _++_}
+use mathlib.Core.Logic.{inl, inr}
 use native.Mathlib.Omega.{arith}
 use native.Mathlib.Decide.{decLe, decLt}
 use borrow.Author.Tests.{ne-eqb, eqb-true, eqb-false}
@@ -12,15 +13,15 @@ use lib.Dec.{ltb, eqb}
 use Rattle.machine.specs.declared.Verdict.the-variants.{Accepted}
 use Rattle.acceptance.proofs.Tests.{both}
 use Rattle.acceptance.specs.Accept.{cellsFit}
-use Rattle.definition_tape.specs.Blocks.{Block}
+use Rattle.definition_tape.specs.Blocks.{Block, Names, Named, NamedOnce}
 use Rattle.definition_tape.specs.Layout.{lengthOf, payloadOf, recordsOf, firstOf, firstCell, cellCount, blockCells, flagsOf, controlOf}
 use Rattle.definition_tape.specs.Load.{pasted, storedBlock, loadRecord, loadRecords}
 use Rattle.definition_tape.specs.Remark.{spanBy}
 use Rattle.definition_tape.proofs.Firsts.{first-none, first-here, first-next}
 use Rattle.definition_tape.proofs.Loads.{length-cells, load-more, load-none}
-use Rattle.tape_promises.specs.Grammar.{Header, ControlPayload, Records, block-then, remark-then, control-then-end}
-use Rattle.tape_promises.specs.Contents.{blocksOf, Names, Unnamed, Holds, written, kept, controlPayload, oneIf, ControlFields, firstRemark, spanOf, remarkBytes}
-use Rattle.tape_promises.proofs.Grammars.{Reads, reads}
+use Rattle.tape_promises.specs.Grammar.{ControlPayload, Records, block-then, remark-then, control-then-end, blocksOf}
+use Rattle.tape_promises.specs.Contents.{Among, TheOne, Holds, written, kept, SameBlocks, controlPayload, oneIf, ControlFields, firstRemark, spanOf, remarkBytes}
+use Rattle.tape_promises.proofs.Grammars.{Reads, reads, reads-end}
 
 -- ---- the cells of a store that takes a block
 
@@ -79,33 +80,63 @@ length-loaded s (b ∷ bs) f =
     let e = length-stored s b (f .0) in
     length-loaded (storedBlock s (b .first) (b .cells)) bs (rw e (f .1)) ∙ e
 
+-- ---- the one block that names a cell
+
+among-named : (a : Block) (bs : List Block) (i : ℕ) → Among a bs → Names a i → Named i bs
+unfolding Among Named
+among-named a [] i m n = absurd m
+among-named a (b ∷ bs) i (inl e) n = inl (subst (λ (x : Block). Names x i) e n)
+among-named a (b ∷ bs) i (inr m) n = inr (among-named a bs i m n)
+
 -- one block before the others
-holds-more : (i held stay x : ℕ) (b : Block) (bs : List Block) → (Names b i → stay ≡ getD (b .cells) (i - b .first) 0) → ((Names b i → ⊥) → stay ≡ held)
-    → Holds i stay bs x → Holds i held (b ∷ bs) x
-unfolding Unnamed
-holds-more i held stay x b bs p q (written xs a later m u) = written (b ∷ xs) a later m u
-holds-more i held stay x b bs p q (kept cs u) = at (decLe (b .first) i) (decLt i (b .first + length (b .cells)))
-  where
-    at : Dec (b .first ≤ i) → Dec (i < b .first + length (b .cells)) → Holds i held (b ∷ bs) stay
-    at (yes l) (yes h) = let m : Names b i = record { from = l; below = h } in rw (p m) (written [] b bs m u)
-    at (yes l) (no h) = let m : Names b i → ⊥ = λ z. h (z .below) in rw (q m) (kept (b ∷ bs) (m, u))
-    at (no l) d = let m : Names b i → ⊥ = λ z. l (z .from) in rw (q m) (kept (b ∷ bs) (m, u))
+module _ (i held stay : ℕ) (b : Block) (bs : List Block) (apart : Names b i → Named i bs → ⊥) where
+  one-here : Names b i → TheOne (b ∷ bs) i b
+  unfolding Among
+  one-here n = record { among = inl refl; names = n; only = only }
+    where
+      only : (a : Block) → Among a (b ∷ bs) → Names a i → a ≡ b
+      only a (inl e) m = e
+      only a (inr z) m = absurd (apart n (among-named a bs i z m))
 
-holds : (i : ℕ) (s : List ℕ) (bs : List Block) → Fit (length s) bs → Holds i (getD s i 0) bs (getD (loadBlocks s bs) i 0)
-unfolding loadBlocks Fit Unnamed
-holds i s [] f = kept [] tt
-holds i s (b ∷ bs) f =
-    holds-more i (getD s i 0) (getD (storedBlock s (b .first) (b .cells)) i 0) _ b bs (inside s b (f .0) i) (outside s b (f .0) i)
-    (holds i (storedBlock s (b .first) (b .cells)) bs (rw (length-stored s b (f .0)) (f .1)))
+  one-later : (a : Block) → TheOne bs i a → TheOne (b ∷ bs) i a
+  unfolding Among
+  one-later a o = record { among = inr (o .among); names = o .names; only = only }
+    where
+      only : (c : Block) → Among c (b ∷ bs) → Names c i → c ≡ a
+      only c (inl e) m = absurd (apart (subst (λ (x : Block). Names x i) e m) (among-named a bs i (o .among) (o .names)))
+      only c (inr z) m = o .only c z m
 
-pub only-kept : {i held x : ℕ} {bs : List Block} → Holds i held bs x → Unnamed bs i → x ≡ held
-unfolding Unnamed
-only-kept {i} (written xs b later m u) z = absurd (skip xs z .0 m)
-  where
-    skip : (xs : List Block) → Unnamed (xs ++ (b ∷ later)) i → Unnamed (b ∷ later) i
-    skip [] z = z
-    skip (a ∷ xs) z = skip xs (z .1)
-only-kept (kept cs u) z = refl
+  holds-more : (x : ℕ) → (Names b i → stay ≡ getD (b .cells) (i - b .first) 0) → ((Names b i → ⊥) → stay ≡ held) → Holds i stay bs x → Holds i held (b ∷ bs) x
+  unfolding Named
+  holds-more _ p q (written a o) = written a (one-later a o)
+  holds-more _ p q (kept u) = at (decLe (b .first) i) (decLt i (b .first + length (b .cells)))
+    where
+      out : (Names b i → ⊥) → Named i (b ∷ bs) → ⊥
+      out n (inl m) = n m
+      out n (inr m) = u m
+
+      at : Dec (b .first ≤ i) → Dec (i < b .first + length (b .cells)) → Holds i held (b ∷ bs) stay
+      at (yes l) (yes h) = let n : Names b i = record { from = l; below = h } in rw (p n) (written b (one-here n))
+      at (yes l) (no h) = let n : Names b i → ⊥ = λ z. h (z .below) in rw (q n) (kept (out n))
+      at (no l) d = let n : Names b i → ⊥ = λ z. l (z .from) in rw (q n) (kept (out n))
+
+holds : (i : ℕ) (s : List ℕ) (bs : List Block) → Fit (length s) bs → NamedOnce bs → Holds i (getD s i 0) bs (getD (loadBlocks s bs) i 0)
+unfolding loadBlocks Fit Named NamedOnce
+holds i s [] f o = kept (λ z. z)
+holds i s (b ∷ bs) f o =
+    holds-more i (getD s i 0) (getD (storedBlock s (b .first) (b .cells)) i 0) b bs (o .0 i) _ (inside s b (f .0) i) (outside s b (f .0) i)
+    (holds i (storedBlock s (b .first) (b .cells)) bs (rw (length-stored s b (f .0)) (f .1)) (o .1))
+
+pub only-kept : {i held x : ℕ} {bs : List Block} → Holds i held bs x → (Named i bs → ⊥) → x ≡ held
+only-kept {i} {held} {x} {bs} (written b o) z = absurd (z (among-named b bs i (o .among) (o .names)))
+only-kept (kept u) z = refl
+
+-- the same blocks leave the same in a cell
+pub same-cell : {i held x y : ℕ} {bs cs : List Block} → SameBlocks bs cs → Holds i held bs x → Holds i held cs y → x ≡ y
+same-cell {i} {held} {x} {y} {bs} {cs} e (written a o) (written b p) = rw (p .only a (e a .0 (o .among)) (o .names))
+same-cell {i} {held} {x} {y} {bs} {cs} e (written a o) (kept u) = absurd (u (among-named a cs i (e a .0 (o .among)) (o .names)))
+same-cell {i} {held} {x} {y} {bs} {cs} e (kept u) (written b p) = absurd (u (among-named b bs i (e b .1 (p .among)) (p .names)))
+same-cell {i} {held} {x} {y} {bs} {cs} e (kept u) (kept v) = refl
 
 -- ---- what the loader and the hunt make of a record
 
@@ -126,9 +157,6 @@ module _ (k : ℕ) (p t w : List ℕ) (r : Reads k p t w) where
 
   first-later : (j : ℕ) → (k ≡ j → ⊥) → firstOf j (recordsOf w) ≡ firstOf j (recordsOf t)
   first-later j o = rw (r .rest) at (first-next j w six (λ e. o (sym (r .kind) ∙ e)))
-
-reads-end : (e : List ℕ) → Header 3 0 e → Reads 3 [] [] e
-reads-end e x = rw append-nil at (reads e [] [] 3 x)
 
 load-is : {n : ℕ} {w : List ℕ} (s : List ℕ) (r : Records n w) → loadRecords s (recordsOf w) ≡ loadBlocks s (blocksOf r)
 unfolding blocksOf loadBlocks
@@ -151,8 +179,8 @@ module _ {n : ℕ} {w : List ℕ} (s : List ℕ) (r : Records n w) (e : n ≡ le
   pub size-loaded : length (loadRecords s (recordsOf w)) ≡ length s
   size-loaded = rw (load-is s r) (length-loaded s (blocksOf r) fits)
 
-  pub cells-loaded : (i : ℕ) → Holds i (getD s i 0) (blocksOf r) (getD (loadRecords s (recordsOf w)) i 0)
-  cells-loaded i = rw (load-is s r) (holds i s (blocksOf r) fits)
+  pub cells-loaded : NamedOnce (blocksOf r) → (i : ℕ) → Holds i (getD s i 0) (blocksOf r) (getD (loadRecords s (recordsOf w)) i 0)
+  cells-loaded o i = rw (load-is s r) (holds i s (blocksOf r) fits o)
 
 -- ---- the cells stay within their width
 

@@ -1,8 +1,8 @@
 -- The judge and the grammar agree. Assumes nothing.
 use Prim.Native.Nat.{ℕ, _+_, _*_, _%_, _≤_, _<_}
 use mathlib.Core.Path.{_≡_, refl, sym, ap, subst, _∙_}
-use mathlib.Core.Bool.{Bool, true, false}
-use mathlib.Core.List.{List, _++_}
+use mathlib.Core.Bool.{Bool, true, false, cond}
+use mathlib.Core.List.{List, [], _∷_, _++_, append-nil}
 use native.Mathlib.Omega.{arith}
 use native.Mathlib.Decide.{ℕ-discrete}
 use borrow.Author.Tests.{le-leb, eq-eqb, ne-eqb, leb-true, eqb-true, ltb-false}
@@ -11,10 +11,11 @@ use lib.Seq.{take-append-seam, drop-append-seam, drop-drop, getD-take}
 use lib.Dec.{leb, ltb, eqb}
 use Rattle.machine.specs.declared.Verdict.the-variants.{Accepted}
 use Rattle.acceptance.proofs.Tests.{both, neither}
-use Rattle.definition_tape.specs.Layout.{numberAt, lengthOf, kindOf, payloadOf, restOf, firstCell, cellCount, flagsOf, lastByte}
-use Rattle.definition_tape.specs.Judge.{kindKnown, inOrder, lengthFits, judgeBlock, controlGood, judgeControl, judgePayload}
+use Rattle.definition_tape.specs.Layout.{numberAt, lengthOf, kindOf, payloadOf, restOf, recordsOf, firstCell, cellCount, flagsOf, lastByte}
+use Rattle.definition_tape.specs.Judge.{kindKnown, inOrder, lengthFits, judgeBlock, controlGood, judgeControl, judgePayload, names, timesNamed, unnamedCells}
 use Rattle.tape_promises.specs.Grammar.{Header, BlockPayload, ControlPayload, Records, block-then, remark-then, control-then-end}
-use Rattle.definition_tape.proofs.Records.{length-payload}
+use Rattle.definition_tape.proofs.Records.{length-payload, records-more}
+use Rattle.definition_tape.proofs.Named.{cell-named, unnamed-back}
 use Rattle.definition_tape.proofs.Judged.{Good, Judged, last, more, block-length, control-length, end-length, remark-length, block-payload, control-payload, no-end}
 
 -- ---- from the judge to the grammar
@@ -36,8 +37,8 @@ header-kind : (t : List ℕ) → getD (take 6 t) 4 0 + 256 * getD (take 6 t) 5 0
 unfolding kindOf
 header-kind t = rw (front t 4 (omega arith), front t 5 (omega arith))
 
-header-of : {n : ℕ} {after : Bool} {t : List ℕ} (k : ℕ) → Good n after t → kindOf t ≡ k → Header k (length (payloadOf t)) (take 6 t)
-header-of {n} {after} {t} k g e =
+header-of : {n : ℕ} {after u : Bool} {t : List ℕ} (k : ℕ) → Good n after u t → kindOf t ≡ k → Header k (length (payloadOf t)) (take 6 t)
+header-of {n} {after} {u} {t} k g e =
     let w = g .whole in
     record {
       bytes = simp length-take (omega arith);
@@ -45,12 +46,12 @@ header-of {n} {after} {t} k g e =
       kind = header-kind t ∙ e;
     }
 
-block-of : {n : ℕ} {after : Bool} {t : List ℕ} → Good n after t → kindOf t ≡ 1 → BlockPayload n (payloadOf t)
-block-of {n} {after} {t} g e =
+block-of : {n : ℕ} {after u : Bool} {t : List ℕ} → Good n after u t → kindOf t ≡ 1 → BlockPayload n (payloadOf t)
+block-of {n} {after} {u} {t} g e =
     let l = block-length (lengthOf t) (rw e at (g .size)) in
-    let p = block-payload n (payloadOf t) (rw e at (g .payload)) in
+    let p = block-payload n u (payloadOf t) (rw e at (g .payload)) in
     let s = length-payload t (g .whole) in
-    record { fours = rw s (l .0); some = rw s (l .1); place = p .0; cells = p .1 }
+    record { fours = rw s (l .0); some = rw s (l .1); place = p .0; cells = p .2 }
 
 pub control-payload-of : (p : List ℕ) → length p ≡ 20 → controlGood p ≡ true → ControlPayload p
 unfolding controlGood
@@ -63,19 +64,19 @@ pub control-good : (p : List ℕ) → ControlPayload p → controlGood p ≡ tru
 unfolding controlGood
 control-good p c = rw (le-leb (flagsOf p) 7 (c .flags), eq-eqb (lastByte p) 0 (c .zero), c .fields)
 
-control-of : {n : ℕ} {after : Bool} {t : List ℕ} → Good n after t → kindOf t ≡ 2 → ControlPayload (payloadOf t)
-control-of {n} {after} {t} g e =
+control-of : {n : ℕ} {after u : Bool} {t : List ℕ} → Good n after u t → kindOf t ≡ 2 → ControlPayload (payloadOf t)
+control-of {n} {after} {u} {t} g e =
     control-payload-of (payloadOf t) (length-payload t (g .whole) ∙ control-length (lengthOf t) (rw e at (g .size)))
-    (control-payload n (payloadOf t) (rw e at (g .payload)))
+    (control-payload n u (payloadOf t) (rw e at (g .payload)))
 
 -- only the end stands after the control record
-end-of : {n : ℕ} {after : Bool} {t : List ℕ} → Judged n after t → after ≡ true → Header 3 0 t
+end-of : {n : ℕ} {after : Bool} {earlier : List (List ℕ)} {t : List ℕ} → Judged n after earlier t → after ≡ true → Header 3 0 t
 unfolding lengthOf kindOf inOrder
-end-of {n} {after} {t} (last g k h) a =
+end-of {n} {after} {earlier} {t} (last g k h) a =
     let l = end-length (lengthOf t) (rw k at (g .size)) in
     let w = g .whole in
     record { bytes = omega arith; size = l; kind = k }
-end-of {n} {after} {t} (more g k j) a = absurd (k (eqb-true (kindOf t) 3 (rw a at (g .order))))
+end-of {n} {after} {earlier} {t} (more g k j) a = absurd (k (eqb-true (kindOf t) 3 (rw a at (g .order))))
 
 kind-four : (k : ℕ) → kindKnown k ≡ true → (k ≡ 1 → ⊥) → (k ≡ 2 → ⊥) → (k ≡ 3 → ⊥) → k ≡ 4
 unfolding kindKnown
@@ -85,9 +86,9 @@ kind-four k e a b c =
     let u = leb-true k 4 (h .1) in
     omega arith
 
-pub grammar : {n : ℕ} {after : Bool} {t : List ℕ} → Judged n after t → after ≡ false → Records n t
-grammar {n} {after} {t} (last g k h) a = absurd (no-end n after t g k a)
-grammar {n} {after} {t} (more g k j) a = subst (Records n) (sym (parts t)) (at (ℕ-discrete (kindOf t) 1) (ℕ-discrete (kindOf t) 2) (grammar j))
+pub grammar : {n : ℕ} {after : Bool} {earlier : List (List ℕ)} {t : List ℕ} → Judged n after earlier t → after ≡ false → Records n t
+grammar {n} {after} {earlier} {t} (last g k h) a = absurd (no-end n after _ t g k a)
+grammar {n} {after} {earlier} {t} (more g k j) a = subst (Records n) (sym (parts t)) (at (ℕ-discrete (kindOf t) 1) (ℕ-discrete (kindOf t) 2) (grammar j))
   where
     at : Dec (kindOf t ≡ 1) → Dec (kindOf t ≡ 2) → (eqb (kindOf t) 2 ≡ false → Records n (restOf t)) → Records n (take 6 t ++ (payloadOf t ++ restOf t))
     at (yes e) d ih =
@@ -137,9 +138,9 @@ reads h p t k d =
       whole = simp length-append (omega arith);
     }
 
-good-of : (n k : ℕ) (after : Bool) (p t w : List ℕ) → Reads k p t w → kindKnown k ≡ true → inOrder after k ≡ true → lengthFits k (length p) ≡ true
-    → judgePayload n k p ≡ Accepted → Good n after w
-good-of n k after p t w r a b c d =
+good-of : (n k : ℕ) (after u : Bool) (p t w : List ℕ) → Reads k p t w → kindKnown k ≡ true → inOrder after k ≡ true → lengthFits k (length p) ≡ true
+    → judgePayload n u k p ≡ Accepted → Good n after u w
+good-of n k after u p t w r a b c d =
     record {
       known = rw (r .kind) a;
       order = rw (r .kind) b;
@@ -148,27 +149,27 @@ good-of n k after p t w r a b c d =
       payload = rw (r .kind, r .payload) d;
     }
 
-good-block : (n : ℕ) (p t w : List ℕ) → Reads 1 p t w → BlockPayload n p → Good n false w
+good-block : (n : ℕ) (u : Bool) (p t w : List ℕ) → Reads 1 p t w → BlockPayload n p → u ≡ true → Good n false u w
 unfolding kindKnown inOrder lengthFits judgePayload judgeBlock
-good-block n p t w r b =
-    good-of n 1 false p t w r refl refl
+good-block n u p t w r b e =
+    good-of n 1 false u p t w r refl refl
     (rw (eq-eqb (length p % 4) 0 (b .fours), le-leb 8 (length p) (b .some)))
-    (rw (le-leb (firstCell p + cellCount p) n (b .place), b .cells))
+    (rw (le-leb (firstCell p + cellCount p) n (b .place), e, b .cells))
 
-good-remark : (n : ℕ) (p t w : List ℕ) → Reads 4 p t w → length p ≤ 255 → Good n false w
+good-remark : (n : ℕ) (u : Bool) (p t w : List ℕ) → Reads 4 p t w → length p ≤ 255 → Good n false u w
 unfolding kindKnown inOrder lengthFits judgePayload
-good-remark n p t w r h = good-of n 4 false p t w r refl refl (le-leb (length p) 255 h) refl
+good-remark n u p t w r h = good-of n 4 false u p t w r refl refl (le-leb (length p) 255 h) refl
 
-good-control : (n : ℕ) (p t w : List ℕ) → Reads 2 p t w → ControlPayload p → Good n false w
+good-control : (n : ℕ) (u : Bool) (p t w : List ℕ) → Reads 2 p t w → ControlPayload p → Good n false u w
 unfolding kindKnown inOrder lengthFits judgePayload judgeControl
-good-control n p t w r c = good-of n 2 false p t w r refl refl (eq-eqb (length p) 20 (c .bytes)) (rw (control-good p c))
+good-control n u p t w r c = good-of n 2 false u p t w r refl refl (eq-eqb (length p) 20 (c .bytes)) (rw (control-good p c))
 
-judged-end : (n : ℕ) (e : List ℕ) → Header 3 0 e → Judged n true e
+judged-end : (n : ℕ) (earlier : List (List ℕ)) (e : List ℕ) → Header 3 0 e → Judged n true earlier e
 unfolding lengthOf kindOf kindKnown inOrder lengthFits judgePayload
-judged-end n e d =
+judged-end n earlier e d =
     let b = d .bytes in
     let s = d .size in
-    last {after = true} {t = e}
+    last {after = true} {earlier = earlier} {t = e}
     (record {
       known = rw (d .kind);
       order = rw (d .kind);
@@ -179,13 +180,39 @@ judged-end n e d =
     (d .kind)
     (omega arith)
 
-pub judged-of : {n : ℕ} {w : List ℕ} → Records n w → Judged n false w
-judged-of {n} (block-then h p t d b r) =
+pub reads-end : (e : List ℕ) → Header 3 0 e → Reads 3 [] [] e
+reads-end e x = rw append-nil at (reads e [] [] 3 x)
+
+-- the records of a tape that begins with one
+pub first-record : {k : ℕ} {p t w : List ℕ} → Reads k p t w → recordsOf w ≡ w ∷ recordsOf t
+first-record {k} {p} {t} {w} r = let h = r .whole in records-more w (omega arith) ∙ rw (r .rest)
+
+-- none of the cells that are named from here on is named by an earlier record, and none twice
+abbrev pub OnceAfter : List (List ℕ) → List ℕ → Type 0
+OnceAfter earlier w = (i : ℕ) → timesNamed earlier i + timesNamed (recordsOf w) i ≤ 1
+
+once-next : {k : ℕ} {p t w : List ℕ} (earlier : List (List ℕ)) → Reads k p t w → OnceAfter earlier w → OnceAfter (w ∷ earlier) t
+unfolding timesNamed
+once-next {k} {p} {t} {w} earlier r o i =
+    let e : timesNamed (recordsOf w) i ≡ timesNamed (w ∷ recordsOf t) i = ap (λ (ts : List (List ℕ)). timesNamed ts i) (first-record r) in
+    omega (arith, o i)
+
+unnamed : {p t w : List ℕ} (earlier : List (List ℕ)) → Reads 1 p t w → OnceAfter earlier w → unnamedCells earlier (payloadOf w) ≡ true
+unfolding timesNamed
+unnamed {p} {t} {w} earlier r o =
+    unnamed-back earlier (firstCell (payloadOf w)) (cellCount (payloadOf w))
+    (λ j a b.
+    let e : timesNamed (recordsOf w) j ≡ timesNamed (w ∷ recordsOf t) j = ap (λ (ts : List (List ℕ)). timesNamed ts j) (first-record r) in
+    let f : _≡_ {A = ℕ} (cond (names w j) 1 0) 1 = rw (cell-named w j (record { kind = r .kind; from = a; below = b })) in
+    omega (arith, o j))
+
+pub judged-of : {n : ℕ} {w : List ℕ} (earlier : List (List ℕ)) → Records n w → OnceAfter earlier w → Judged n false earlier w
+judged-of {n} earlier (block-then h p t d b r) o =
     let k = reads h p t 1 d in
-    more (good-block n p t (h ++ (p ++ t)) k b) (λ z. omega (arith, k .kind)) (rw (k .kind, k .rest) (judged-of r))
-judged-of {n} (remark-then h p t d l r) =
+    more {earlier = earlier} (good-block n _ p t (h ++ (p ++ t)) k b (unnamed earlier k o)) (λ z. omega (arith, k .kind)) (rw (k .kind, k .rest) (judged-of ((h ++ (p ++ t)) ∷ earlier) r (once-next earlier k o)))
+judged-of {n} earlier (remark-then h p t d l r) o =
     let k = reads h p t 4 d in
-    more (good-remark n p t (h ++ (p ++ t)) k l) (λ z. omega (arith, k .kind)) (rw (k .kind, k .rest) (judged-of r))
-judged-of {n} (control-then-end h p e d c x) =
+    more {earlier = earlier} (good-remark n _ p t (h ++ (p ++ t)) k l) (λ z. omega (arith, k .kind)) (rw (k .kind, k .rest) (judged-of ((h ++ (p ++ t)) ∷ earlier) r (once-next earlier k o)))
+judged-of {n} earlier (control-then-end h p e d c x) o =
     let k = reads h p e 2 d in
-    more (good-control n p e (h ++ (p ++ e)) k c) (λ z. omega (arith, k .kind)) (rw (k .kind, k .rest) (judged-end n e x))
+    more {earlier = earlier} (good-control n _ p e (h ++ (p ++ e)) k c) (λ z. omega (arith, k .kind)) (rw (k .kind, k .rest) (judged-end n ((h ++ (p ++ e)) ∷ earlier) e x))

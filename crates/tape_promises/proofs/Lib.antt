@@ -1,4 +1,5 @@
 pub mod Grammars
+pub mod Once
 pub mod Contents
 pub mod Claims
 pub mod Numbers

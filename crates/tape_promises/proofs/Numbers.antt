@@ -12,19 +12,20 @@ use lib.Dec.{ltb, leb, eqb}
 use Rattle.machine.specs.Answers.{refusalNumber, verdictNumber}
 use Rattle.machine.specs.declared.Control.{Control}
 use Rattle.machine.specs.declared.Refusal.{Refusal}
-use Rattle.machine.specs.declared.Refusal.the-variants.{StoreSize, CellValue, ControlField, Lines, Budget, TapeEnds, RecordKind, RecordLength, BlockPlace, BlockCell, RecordOrder, TapeLength, Device, RemarkLength, WrittenLength, BufferLength}
+use Rattle.machine.specs.declared.Refusal.the-variants.{StoreSize, CellValue, ControlField, Lines, Budget, TapeEnds, RecordKind, RecordLength, BlockPlace, BlockCell, RecordOrder, TapeLength, Device, RemarkLength, WrittenLength, BufferLength, BlockOverlap}
 use Rattle.machine.specs.declared.Verdict.{Verdict}
 use Rattle.machine.specs.declared.Verdict.the-variants.{Accepted, Rejected}
 use Rattle.acceptance.proofs.Tests.{refused}
 use Rattle.acceptance.specs.Accept.{sizeFits, cellsFit, judgeStore}
 use Rattle.definition_tape.specs.Layout.{lengthOf, kindOf, payloadOf, restOf, recordsOf, firstOf, firstCell, cellCount, blockCells}
-use Rattle.definition_tape.specs.Judge.{kindKnown, inOrder, lengthFits, judgeBlock, controlGood, judgeControl, judgePayload, judgeRecord, judgeAfter, judgeRecords, judgeTape}
+use Rattle.definition_tape.specs.Judge.{kindKnown, inOrder, lengthFits, judgeBlock, controlGood, judgeControl, judgePayload, judgeRecord, names, timesNamed, unnamedCells, judgeAfter, judgeRecords, judgeTape}
 use Rattle.definition_tape.specs.Load.{judgeThen, judgeLoad, loadedBy, loading}
 use Rattle.definition_tape.specs.Remark.{judgeReading, noSpan, spanAt, spanBy, remarkSpan, textBy, remarkText}
 use Rattle.definition_tape.proofs.Records.{length-rest, length-payload}
 use Rattle.definition_tape.proofs.Judged.{block-length, control-length, end-length, remark-length, no-records, a-record}
+use Rattle.definition_tape.proofs.Named.{names-cell, cell-named, unnamed-true, unnamed-false}
 use Rattle.tape_promises.specs.Grammar.{ControlPayload}
-use Rattle.tape_promises.specs.Numbers.{Test, met, unmet, passed, OutOfOrder, LengthFor, RecordRefused, RecordsRefused, this-one, later-one, TapeRefused, SizeRefused, LoadRefused, ReadingRefused}
+use Rattle.tape_promises.specs.Numbers.{Test, met, unmet, passed, OutOfOrder, LengthFor, SomeNames, NamesAgain, RecordRefused, RecordsRefused, this-one, later-one, TapeRefused, SizeRefused, LoadRefused, ReadingRefused}
 use Rattle.tape_promises.specs.Claims.{TapeNumbers, LoadNumbers, ReadingNumbers}
 use Rattle.tape_promises.proofs.Grammars.{control-payload-of, control-good}
 
@@ -131,53 +132,96 @@ end-gives t = at (eqb (kindOf t) 3) refl
         (λ x. gives-none)
     at false e = skip (λ c. eqb-false (kindOf t) 3 e (c .0)) gives-none
 
-module _ (n : ℕ) (t : List ℕ) (w : 6 + lengthOf t ≤ length t) (f : LengthFor (kindOf t) (lengthOf t)) where
+-- ---- the cells that earlier records name
+
+some-names : (ts : List (List ℕ)) (i : ℕ) → 0 < timesNamed ts i → SomeNames ts i
+unfolding timesNamed SomeNames
+some-names [] i h = let no : ⊥ = omega arith in absurd no
+some-names (t ∷ ts) i h = at (names t i) refl (some-names ts i) h
+  where
+    at : (b : Bool) → names t i ≡ b → (0 < timesNamed ts i → SomeNames ts i) → 0 < cond b 1 0 + timesNamed ts i → SomeNames (t ∷ ts) i
+    at true e ih h = inl (names-cell t i e)
+    at false e ih h = inr (ih (omega arith))
+
+names-some : (ts : List (List ℕ)) (i : ℕ) → SomeNames ts i → 0 < timesNamed ts i
+unfolding timesNamed SomeNames
+names-some [] i n = absurd n
+names-some (t ∷ ts) i (inl n) = rw (cell-named t i n) (omega arith)
+names-some (t ∷ ts) i (inr n) = let h = names-some ts i n in omega arith
+
+again-decides : (earlier : List (List ℕ)) (t : List ℕ) → kindOf t ≡ 1 → Decides (unnamedCells earlier (payloadOf t)) (NamesAgain earlier t)
+again-decides earlier t k =
+    record {
+      passes =
+          λ e a.
+          let z = unnamed-true earlier (firstCell (payloadOf t)) (cellCount (payloadOf t)) e (a .cell) (a .here .from) (a .here .below) in
+          let h = names-some earlier (a .cell) (a .before) in
+          omega arith;
+      fails =
+          λ e.
+          let f = unnamed-false earlier (firstCell (payloadOf t)) (cellCount (payloadOf t)) e in
+          record { cell = f .cell; here = record { kind = k; from = f .from; below = f .below }; before = some-names earlier (f .cell) (f .named) };
+    }
+
+module _ (n : ℕ) (earlier : List (List ℕ)) (t : List ℕ) (w : 6 + lengthOf t ≤ length t) (f : LengthFor (kindOf t) (lengthOf t)) where
   abbrev PayloadRefused : ℕ → Type 0
   PayloadRefused =
       Test 9 ((kindOf t ≡ 1) × (n < firstCell (payloadOf t) + cellCount (payloadOf t)))
-      (Test 10 ((kindOf t ≡ 1) × (cellsFit (blockCells (payloadOf t)) ≡ false)) (Test 3 ((kindOf t ≡ 2) × (ControlPayload (payloadOf t) → ⊥)) (BytesAfter t)))
+      (Test 17 (NamesAgain earlier t)
+      (Test 10 ((kindOf t ≡ 1) × (cellsFit (blockCells (payloadOf t)) ≡ false)) (Test 3 ((kindOf t ≡ 2) × (ControlPayload (payloadOf t) → ⊥)) (BytesAfter t))))
 
-  block-gives : kindOf t ≡ 1 → Gives (num t (judgeBlock n (payloadOf t))) PayloadRefused
+  abbrev unnamed : Bool
+  unnamed = unnamedCells earlier (payloadOf t)
+
+  block-gives : kindOf t ≡ 1 → Gives (num t (judgeBlock n unnamed (payloadOf t))) PayloadRefused
   unfolding judgeBlock num
   block-gives e =
       let d = above (firstCell (payloadOf t) + cellCount (payloadOf t)) n in
       tested (num t) (leb (firstCell (payloadOf t) + cellCount (payloadOf t)) n) _ BlockPlace refl (omega arith)
       (record { passes = λ x c. d .passes x (c .1); fails = λ x. (e, d .fails x) })
-      (λ x. tested (num t) (cellsFit (blockCells (payloadOf t))) Accepted BlockCell refl (omega arith)
-      (record { passes = λ y c. not-both y (c .1); fails = λ y. (e, y) })
-      (λ y. skip (λ c. let z = c .0 in omega arith) (end-gives t)))
+      (λ x. tested (num t) unnamed _ BlockOverlap refl (omega arith) (again-decides earlier t e)
+      (λ y. tested (num t) (cellsFit (blockCells (payloadOf t))) Accepted BlockCell refl (omega arith)
+      (record { passes = λ z c. not-both z (c .1); fails = λ z. (e, z) })
+      (λ z. skip (λ c. let q = c .0 in omega arith) (end-gives t))))
 
   control-gives : kindOf t ≡ 2 → Gives (num t (judgeControl (payloadOf t))) PayloadRefused
   unfolding judgeControl num
   control-gives e =
       let l : length (payloadOf t) ≡ 20 = length-payload t w ∙ f .control e in
       skip (λ c. let z = c .0 in omega arith)
+      (skip (λ a. let z = a .here .kind in omega arith)
       (skip (λ c. let z = c .0 in omega arith)
       (tested (num t) (controlGood (payloadOf t)) Accepted ControlField refl (omega arith)
       (record { passes = λ x c. c .1 (control-payload-of (payloadOf t) l x); fails = λ x. (e, λ c. not-both (control-good (payloadOf t) c) x) })
-      (λ x. end-gives t)))
+      (λ x. end-gives t))))
 
-  payload-gives : Gives (num t (judgePayload n (kindOf t) (payloadOf t))) PayloadRefused
+  payload-gives : Gives (num t (judgePayload n unnamed (kindOf t) (payloadOf t))) PayloadRefused
   unfolding judgePayload
   payload-gives = at (ℕ-discrete (kindOf t) 1) (ℕ-discrete (kindOf t) 2)
     where
-      at : Dec (kindOf t ≡ 1) → Dec (kindOf t ≡ 2) → Gives (num t (judgePayload n (kindOf t) (payloadOf t))) PayloadRefused
+      at : Dec (kindOf t ≡ 1) → Dec (kindOf t ≡ 2) → Gives (num t (judgePayload n unnamed (kindOf t) (payloadOf t))) PayloadRefused
       at (yes e) x = rw (eq-eqb (kindOf t) 1 e) (block-gives e)
       at (no o) (yes e) = rw (ne-eqb (kindOf t) 1 o, eq-eqb (kindOf t) 2 e) (control-gives e)
-      at (no o) (no x) = rw (ne-eqb (kindOf t) 1 o, ne-eqb (kindOf t) 2 x) (skip (λ c. o (c .0)) (skip (λ c. o (c .0)) (skip (λ c. x (c .0)) (end-gives t))))
+      at (no o) (no x) =
+          rw (ne-eqb (kindOf t) 1 o, ne-eqb (kindOf t) 2 x)
+          (skip (λ c. o (c .0)) (skip (λ a. o (a .here .kind)) (skip (λ c. o (c .0)) (skip (λ c. x (c .0)) (end-gives t)))))
 
-record-judged : ℕ → Bool → List ℕ → ℕ
-record-judged n after t = num t (cond (leb 6 (length t)) (judgeRecord n after t) (Rejected TapeEnds))
+-- the verdict on a record after the records `earlier`
+abbrev judgedRecord : ℕ → Bool → List (List ℕ) → List ℕ → Verdict
+judgedRecord n after earlier t = judgeRecord n after (unnamedCells earlier (payloadOf t)) t
 
-record-gives : (n : ℕ) (after : Bool) (t : List ℕ) → Gives (record-judged n after t) (RecordRefused n after t)
+record-judged : ℕ → Bool → List (List ℕ) → List ℕ → ℕ
+record-judged n after earlier t = num t (cond (leb 6 (length t)) (judgedRecord n after earlier t) (Rejected TapeEnds))
+
+record-gives : (n : ℕ) (after : Bool) (earlier : List (List ℕ)) (t : List ℕ) → Gives (record-judged n after earlier t) (RecordRefused n after earlier t)
 unfolding record-judged judgeRecord num
-record-gives n after t =
+record-gives n after earlier t =
     tested (num t) (leb 6 (length t)) _ TapeEnds refl (omega arith) (above 6 (length t))
     (λ s. tested (num t) (kindKnown (kindOf t)) _ RecordKind refl (omega arith) (kind-decides (kindOf t))
     (λ a. tested (num t) (inOrder after (kindOf t)) _ RecordOrder refl (omega arith) (order-decides after (kindOf t))
     (λ b. tested (num t) (lengthFits (kindOf t) (lengthOf t)) _ RecordLength refl (omega arith) (length-decides (kindOf t) (lengthOf t) (kind-decides (kindOf t) .passes a))
     (λ c. tested (num t) (leb (6 + lengthOf t) (length t)) _ TapeEnds refl (omega arith) (above (6 + lengthOf t) (length t))
-    (λ d. payload-gives n t (leb-true (6 + lengthOf t) (length t) d) (length-for (kindOf t) (lengthOf t) c))))))
+    (λ d. payload-gives n earlier t (leb-true (6 + lengthOf t) (length t) d) (length-for (kindOf t) (lengthOf t) c))))))
 
 -- ---- a number tells its verdict
 
@@ -185,7 +229,7 @@ verdicts : List Verdict
 verdicts =
     Accepted ∷ Rejected StoreSize ∷ Rejected CellValue ∷ Rejected ControlField ∷ Rejected Lines ∷ Rejected Budget ∷ Rejected TapeEnds ∷ Rejected RecordKind
     ∷ Rejected RecordLength ∷ Rejected BlockPlace ∷ Rejected BlockCell ∷ Rejected RecordOrder ∷ Rejected TapeLength ∷ Rejected Device
-    ∷ Rejected RemarkLength ∷ Rejected WrittenLength ∷ Rejected BufferLength ∷ []
+    ∷ Rejected RemarkLength ∷ Rejected WrittenLength ∷ Rejected BufferLength ∷ Rejected BlockOverlap ∷ []
 
 told : (v : Verdict) → getD verdicts (verdictNumber v) Accepted ≡ v
 unfolding verdicts
@@ -206,6 +250,7 @@ told (Rejected Device) = refl
 told (Rejected RemarkLength) = refl
 told (Rejected WrittenLength) = refl
 told (Rejected BufferLength) = refl
+told (Rejected BlockOverlap) = refl
 
 same-number : (v w : Verdict) → verdictNumber v ≡ verdictNumber w → v ≡ w
 same-number v w e = sym (told v) ∙ ap (λ (k : ℕ). getD verdicts k Accepted) e ∙ told w
@@ -216,51 +261,51 @@ positive q = let o : refusalNumber q ≡ 0 → ⊥ = λ e. refused (same-number 
 -- ---- record by record
 
 -- the number is this record's; or the record is good and not the end, and what is left is judged
-data Goes (n : ℕ) (after : Bool) (t : List ℕ) : Type 0 where
-  stops : verdictNumber (judgeRecords n after (recordsOf t)) ≡ record-judged n after t → (kindOf t ≡ 3) ⊎ (0 < record-judged n after t) → Goes n after t
-  goes-on : 6 ≤ length t → (kindOf t ≡ 3 → ⊥) → record-judged n after t ≡ 0
-      → judgeRecords n after (recordsOf t) ≡ judgeRecords n (eqb (kindOf t) 2) (recordsOf (restOf t)) → Goes n after t
+data Goes (n : ℕ) (after : Bool) (earlier : List (List ℕ)) (t : List ℕ) : Type 0 where
+  stops : verdictNumber (judgeRecords n after earlier (recordsOf t)) ≡ record-judged n after earlier t → (kindOf t ≡ 3) ⊎ (0 < record-judged n after earlier t) → Goes n after earlier t
+  goes-on : 6 ≤ length t → (kindOf t ≡ 3 → ⊥) → record-judged n after earlier t ≡ 0
+      → judgeRecords n after earlier (recordsOf t) ≡ judgeRecords n (eqb (kindOf t) 2) (t ∷ earlier) (recordsOf (restOf t)) → Goes n after earlier t
 
-goes : (n : ℕ) (after : Bool) (t : List ℕ) → Goes n after t
+goes : (n : ℕ) (after : Bool) (earlier : List (List ℕ)) (t : List ℕ) → Goes n after earlier t
 unfolding record-judged num
-goes n after t = at (leb 6 (length t)) refl
+goes n after earlier t = at (leb 6 (length t)) refl
   where
-    good : 6 ≤ length t → leb 6 (length t) ≡ true → judgeRecord n after t ≡ Accepted → Dec (kindOf t ≡ 3) → Goes n after t
-    good h b e (yes k) = stops (ap verdictNumber (a-record n after t h) ∙ rw (b, e, eq-eqb (kindOf t) 3 k)) (inl k)
-    good h b e (no k) = goes-on h k (rw (b, e, ne-eqb (kindOf t) 3 k)) (a-record n after t h ∙ rw (e, ne-eqb (kindOf t) 3 k))
+    good : 6 ≤ length t → leb 6 (length t) ≡ true → judgedRecord n after earlier t ≡ Accepted → Dec (kindOf t ≡ 3) → Goes n after earlier t
+    good h b e (yes k) = stops (ap verdictNumber (a-record n after earlier t h) ∙ rw (b, e, eq-eqb (kindOf t) 3 k)) (inl k)
+    good h b e (no k) = goes-on h k (rw (b, e, ne-eqb (kindOf t) 3 k)) (a-record n after earlier t h ∙ rw (e, ne-eqb (kindOf t) 3 k))
 
-    by : (v : Verdict) → 6 ≤ length t → leb 6 (length t) ≡ true → judgeRecord n after t ≡ v → Goes n after t
-    by (Rejected q) h b e = stops (ap verdictNumber (a-record n after t h) ∙ rw (b, e)) (inr (rw (b, e) (positive q)))
+    by : (v : Verdict) → 6 ≤ length t → leb 6 (length t) ≡ true → judgedRecord n after earlier t ≡ v → Goes n after earlier t
+    by (Rejected q) h b e = stops (ap verdictNumber (a-record n after earlier t h) ∙ rw (b, e)) (inr (rw (b, e) (positive q)))
     by Accepted h b e = good h b e (ℕ-discrete (kindOf t) 3)
 
-    at : (b : Bool) → leb 6 (length t) ≡ b → Goes n after t
-    at true e = by (judgeRecord n after t) (leb-true 6 (length t) e) e refl
-    at false e = stops (ap verdictNumber (no-records n after t (leb-false 6 (length t) e)) ∙ rw e) (inr (rw e (omega arith)))
+    at : (b : Bool) → leb 6 (length t) ≡ b → Goes n after earlier t
+    at true e = by (judgedRecord n after earlier t) (leb-true 6 (length t) e) e refl
+    at false e = stops (ap verdictNumber (no-records n after earlier t (leb-false 6 (length t) e)) ∙ rw e) (inr (rw e (omega arith)))
 
-refused-number : {n : ℕ} {after : Bool} {t : List ℕ} {k : ℕ} → RecordsRefused n after t k → (verdictNumber (judgeRecords n after (recordsOf t)) ≡ k) × (0 < k)
-refused-number {n} {after} {t} {k} (this-one d) = at (goes n after t) (record-gives n after t k .0 d)
+refused-number : {n : ℕ} {after : Bool} {earlier : List (List ℕ)} {t : List ℕ} {k : ℕ} → RecordsRefused n after earlier t k → (verdictNumber (judgeRecords n after earlier (recordsOf t)) ≡ k) × (0 < k)
+refused-number {n} {after} {earlier} {t} {k} (this-one d) = at (goes n after earlier t) (record-gives n after earlier t k .0 d)
   where
-    at : Goes n after t → (record-judged n after t ≡ k) × (0 < k) → (verdictNumber (judgeRecords n after (recordsOf t)) ≡ k) × (0 < k)
+    at : Goes n after earlier t → (record-judged n after earlier t ≡ k) × (0 < k) → (verdictNumber (judgeRecords n after earlier (recordsOf t)) ≡ k) × (0 < k)
     at (stops e z) g = (e ∙ g .0, g .1)
     at (goes-on h o e f) g = let x = g .0 in let y = g .1 in let no : ⊥ = omega arith in absurd no
-refused-number {n} {after} {t} {k} (later-one o x r) = at (goes n after t) (refused-number r)
+refused-number {n} {after} {earlier} {t} {k} (later-one o x r) = at (goes n after earlier t) (refused-number r)
   where
-    at : Goes n after t → (verdictNumber (judgeRecords n (eqb (kindOf t) 2) (recordsOf (restOf t))) ≡ k) × (0 < k)
-        → (verdictNumber (judgeRecords n after (recordsOf t)) ≡ k) × (0 < k)
+    at : Goes n after earlier t → (verdictNumber (judgeRecords n (eqb (kindOf t) 2) (t ∷ earlier) (recordsOf (restOf t))) ≡ k) × (0 < k)
+        → (verdictNumber (judgeRecords n after earlier (recordsOf t)) ≡ k) × (0 < k)
     at (stops e (inl z)) g = absurd (x z)
-    at (stops e (inr z)) g = absurd (o (record-judged n after t) (record-gives n after t (record-judged n after t) .1 z refl))
+    at (stops e (inr z)) g = absurd (o (record-judged n after earlier t) (record-gives n after earlier t (record-judged n after earlier t) .1 z refl))
     at (goes-on h y e f) g = (ap verdictNumber f ∙ g .0, g .1)
 
-number-refused : (f n : ℕ) (after : Bool) (t : List ℕ) (k : ℕ) → length t < f → 0 < k → verdictNumber (judgeRecords n after (recordsOf t)) ≡ k → RecordsRefused n after t k
-number-refused zero n after t k l z e = let no : ⊥ = omega arith in absurd no
-number-refused (suc f) n after t k l z e = at (goes n after t) (number-refused f n (eqb (kindOf t) 2) (restOf t) k)
+number-refused : (f n : ℕ) (after : Bool) (earlier : List (List ℕ)) (t : List ℕ) (k : ℕ) → length t < f → 0 < k → verdictNumber (judgeRecords n after earlier (recordsOf t)) ≡ k → RecordsRefused n after earlier t k
+number-refused zero n after earlier t k l z e = let no : ⊥ = omega arith in absurd no
+number-refused (suc f) n after earlier t k l z e = at (goes n after earlier t) (number-refused f n (eqb (kindOf t) 2) (t ∷ earlier) (restOf t) k)
   where
-    at : Goes n after t
-        → (length (restOf t) < f → 0 < k → verdictNumber (judgeRecords n (eqb (kindOf t) 2) (recordsOf (restOf t))) ≡ k → RecordsRefused n (eqb (kindOf t) 2) (restOf t) k)
-        → RecordsRefused n after t k
-    at (stops x y) ih = this-one (record-gives n after t k .1 z (sym x ∙ e))
+    at : Goes n after earlier t
+        → (length (restOf t) < f → 0 < k → verdictNumber (judgeRecords n (eqb (kindOf t) 2) (t ∷ earlier) (recordsOf (restOf t))) ≡ k → RecordsRefused n (eqb (kindOf t) 2) (t ∷ earlier) (restOf t) k)
+        → RecordsRefused n after earlier t k
+    at (stops x y) ih = this-one (record-gives n after earlier t k .1 z (sym x ∙ e))
     at (goes-on h o x y) ih =
-        let good : (j : ℕ) → RecordRefused n after t j → ⊥ = λ j d. let g = record-gives n after t j .0 d in let a = g .0 in let b = g .1 in omega arith in
+        let good : (j : ℕ) → RecordRefused n after earlier t j → ⊥ = λ j d. let g = record-gives n after earlier t j .0 d in let a = g .0 in let b = g .1 in omega arith in
         later-one good o (ih (omega (arith, length-rest t)) z (sym (ap verdictNumber y) ∙ e))
 
 -- ---- whole tapes
@@ -269,7 +314,7 @@ tape-gives : (n : ℕ) (t : List ℕ) → Gives (verdictNumber (judgeTape n t)) 
 unfolding judgeTape
 tape-gives n t =
     tested verdictNumber (leb (length t) 65536) _ TapeLength refl (omega arith) (above (length t) 65536)
-    (λ e k. (refused-number, number-refused (suc (length t)) n false t k (omega arith)))
+    (λ e k. (refused-number, number-refused (suc (length t)) n false [] t k (omega arith)))
 
 pub size-decides : (n : ℕ) → Decides (sizeFits n) (SizeRefused n)
 unfolding sizeFits

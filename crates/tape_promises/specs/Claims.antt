@@ -10,18 +10,25 @@ use Rattle.machine.specs.declared.Control.{Control}
 use Rattle.machine.specs.declared.Refusal.{Refusal}
 use Rattle.machine.specs.declared.Verdict.the-variants.{Accepted, Rejected}
 use Rattle.acceptance.specs.Accept.{sizeFits, cellsFit, judgeStore, judgeMachine}
+use Rattle.definition_tape.specs.Layout.{recordsOf, NamesCell}
+use Rattle.definition_tape.specs.Blocks.{Named}
 use Rattle.definition_tape.specs.Judge.{judgeTape}
 use Rattle.definition_tape.specs.Load.{Loaded, judgeLoad, loading}
 use Rattle.definition_tape.specs.Remark.{judgeReading, remarkSpan, remarkText}
-use Rattle.tape_promises.specs.Grammar.{Records, TapeFor}
-use Rattle.tape_promises.specs.Contents.{blocksOf, Unnamed, Holds, controlPayload, ControlFields, firstRemark, spanOf, remarkBytes}
+use Rattle.tape_promises.specs.Grammar.{Records, blocksOf, TapeFor}
+use Rattle.tape_promises.specs.Contents.{Holds, SameBlocks, controlPayload, ControlFields, firstRemark, spanOf, remarkBytes}
 use Rattle.tape_promises.specs.Numbers.{TapeRefused, LoadRefused, ReadingRefused}
 
 -- ---- which tapes are accepted, and what they load
 
--- a tape is accepted exactly if it is a row of good records with one control record and the end
+-- a tape is accepted exactly if it is a row of good records with one control record and the end, and names no cell twice
 abbrev pub AcceptedTapes : Type 0
 AcceptedTapes = (n : ℕ) (t : List ℕ) → (judgeTape n t ≡ Accepted → TapeFor n t) × (TapeFor n t → judgeTape n t ≡ Accepted)
+
+-- no two records of an accepted tape name the same cell
+abbrev pub NoCellTwice : Type 0
+NoCellTwice =
+    (n : ℕ) (t : List ℕ) → judgeTape n t ≡ Accepted → (j k i : ℕ) → j < k → NamesCell (getD (recordsOf t) j []) i → NamesCell (getD (recordsOf t) k []) i → ⊥
 
 -- the records r are loaded into a store of the cells s
 pub record LoadedFrom {n : ℕ} {t : List ℕ} (r : Records n t) (s : List ℕ) (x : Loaded) : Type 0 where
@@ -37,8 +44,14 @@ LoadsLayout = (t s : List ℕ) (c : Control) → judgeStore s ≡ Accepted → (
 -- cells that no block names keep what they held
 abbrev pub KeptCells : Type 0
 KeptCells =
-    (t s : List ℕ) (c : Control) (h : TapeFor (length s) t) (i : ℕ) → Unnamed (blocksOf (h .layout)) i
+    (t s : List ℕ) (c : Control) (h : TapeFor (length s) t) (i : ℕ) → (Named i (blocksOf (h .layout)) → ⊥)
     → getD (loading t s c .cells) i 0 ≡ getD s i 0
+
+-- the order of the blocks does not matter: two accepted tapes with the same blocks load the same cells
+abbrev pub AnyOrder : Type 0
+AnyOrder =
+    (t u s : List ℕ) (c d : Control) (h : TapeFor (length s) t) (k : TapeFor (length s) u) → SameBlocks (blocksOf (h .layout)) (blocksOf (k .layout))
+    → loading t s c .cells ≡ loading u s d .cells
 
 -- the store keeps its number of cells
 abbrev pub KeptSize : Type 0

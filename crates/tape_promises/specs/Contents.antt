@@ -1,37 +1,38 @@
 -- What the records of a tape hold, by their layout (document 01, "Load tape"). Neither judge nor loader is named here.
 -- Assumes nothing.
-use Prim.Native.Nat.{ℕ, _+_, _-_, _*_, _≤_, _<_}
+use Prim.Native.Nat.{ℕ, _+_, _-_, _*_}
 use mathlib.Core.Path.{_≡_}
 use mathlib.Core.Bool.{Bool, true, false}
-use mathlib.Core.List.{List, [], _∷_, _++_}
+use mathlib.Core.List.{List, [], _∷_}
+use mathlib.Core.Logic.{_⊎_}
 use lib.ListN.{length, getD}
 use Rattle.machine.specs.declared.Control.{Control}
 use Rattle.definition_tape.specs.declared.Span.{Span}
-use Rattle.definition_tape.specs.Layout.{numberAt, firstCell, blockCells, flagsOf}
-use Rattle.definition_tape.specs.Blocks.{Block}
+use Rattle.definition_tape.specs.Layout.{numberAt, flagsOf}
+use Rattle.definition_tape.specs.Blocks.{Block, Names, Named}
 use Rattle.tape_promises.specs.Grammar.{Records, block-then, remark-then, control-then-end}
 
--- ---- kind 1, block: first cell index, then the cells
+-- ---- kind 1, block: the blocks as a set, in no order
 
-unfoldable pub blocksOf : {n : ℕ} {t : List ℕ} → Records n t → List Block
-blocksOf (block-then h p t d b r) = record { first = firstCell p; cells = blockCells p } ∷ blocksOf r
-blocksOf (remark-then h p t d l r) = blocksOf r
-blocksOf (control-then-end h p e d c x) = []
+-- b is one of the blocks
+unfoldable pub Among : Block → List Block → Type 0
+Among b [] = ⊥
+Among b (a ∷ bs) = (b ≡ a) ⊎ Among b bs
 
--- the block b names the cell i
-pub record Names (b : Block) (i : ℕ) : Type 0 where
-  pub from : b .first ≤ i
-  pub below : i < b .first + length (b .cells)
+-- b is the one block that names the cell i
+pub record TheOne (bs : List Block) (i : ℕ) (b : Block) : Type 0 where
+  pub among : Among b bs
+  pub names : Names b i
+  pub only : (a : Block) → Among a bs → Names a i → a ≡ b
 
--- no block names the cell i
-unfoldable pub Unnamed : List Block → ℕ → Type 0
-Unnamed [] i = Unit {0}
-Unnamed (b ∷ bs) i = (Names b i → ⊥) × Unnamed bs i
+-- the cell i, which held `held`, holds x after the blocks: what the one that names it has there, or, where none does, what it held
+pub data Holds (i held : ℕ) (bs : List Block) : ℕ → Type 0 where
+  written : (b : Block) → TheOne bs i b → Holds i held bs (getD (b .cells) (i - b .first) 0)
+  kept : (Named i bs → ⊥) → Holds i held bs held
 
--- later blocks overwrite; cells no block names keep what they held: the cell i, which held `held`, holds x after the blocks
-pub data Holds (i held : ℕ) : List Block → ℕ → Type 0 where
-  written : (bs : List Block) (b : Block) (later : List Block) → Names b i → Unnamed later i → Holds i held (bs ++ (b ∷ later)) (getD (b .cells) (i - b .first) 0)
-  kept : (bs : List Block) → Unnamed bs i → Holds i held bs held
+-- the same blocks, in whatever order
+abbrev pub SameBlocks : List Block → List Block → Type 0
+SameBlocks bs cs = (b : Block) → (Among b bs → Among b cs) × (Among b cs → Among b bs)
 
 -- ---- kind 2, control
 

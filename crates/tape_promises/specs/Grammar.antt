@@ -1,12 +1,14 @@
--- A tape for a store of n cells, built from its records: blocks and remarks, one control record, the end. The judge is not named here.
+-- A tape for a store of n cells, built from its records: blocks and remarks, one control record, the end; no cell is named twice. The judge is not
+-- named here.
 -- Assumes nothing.
 use Prim.Native.Nat.{ℕ, _+_, _*_, _%_, _≤_}
 use mathlib.Core.Path.{_≡_}
 use mathlib.Core.Bool.{true}
-use mathlib.Core.List.{List, _++_}
+use mathlib.Core.List.{List, [], _∷_, _++_}
 use lib.ListN.{length, getD}
 use Rattle.acceptance.specs.Accept.{cellsFit, controlFits}
 use Rattle.definition_tape.specs.Layout.{numberAt, firstCell, cellCount, blockCells, flagsOf, lastByte, controlOf}
+use Rattle.definition_tape.specs.Blocks.{Block, NamedOnce}
 
 -- a record's header: the payload's length l (4 bytes), the kind k (2 bytes)
 pub record Header (k l : ℕ) (h : List ℕ) : Type 0 where
@@ -34,6 +36,13 @@ pub data Records (n : ℕ) : List ℕ → Type 0 where
   remark-then : (h p t : List ℕ) → Header 4 (length p) h → length p ≤ 255 → Records n t → Records n (h ++ (p ++ t))
   control-then-end : (h p e : List ℕ) → Header 2 (length p) h → ControlPayload p → Header 3 0 e → Records n (h ++ (p ++ e))
 
+-- its blocks, first cell index and cells, in the tape's order
+unfoldable pub blocksOf : {n : ℕ} {t : List ℕ} → Records n t → List Block
+blocksOf (block-then h p t d b r) = record { first = firstCell p; cells = blockCells p } ∷ blocksOf r
+blocksOf (remark-then h p t d l r) = blocksOf r
+blocksOf (control-then-end h p e d c x) = []
+
 pub record TapeFor (n : ℕ) (t : List ℕ) : Type 0 where
   pub size : length t ≤ 65536
   pub layout : Records n t
+  pub once : NamedOnce (blocksOf layout)

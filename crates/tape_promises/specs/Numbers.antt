@@ -3,12 +3,12 @@
 use Prim.Native.Nat.{ℕ, _+_, _%_, _≤_, _<_}
 use mathlib.Core.Path.{_≡_}
 use mathlib.Core.Bool.{Bool, true, false}
-use mathlib.Core.List.{List}
+use mathlib.Core.List.{List, [], _∷_}
 use mathlib.Core.Logic.{_⊎_}
 use lib.ListN.{length}
 use lib.Dec.{eqb}
 use Rattle.acceptance.specs.Accept.{cellsFit}
-use Rattle.definition_tape.specs.Layout.{lengthOf, kindOf, payloadOf, restOf, firstCell, cellCount, blockCells}
+use Rattle.definition_tape.specs.Layout.{lengthOf, kindOf, payloadOf, restOf, firstCell, cellCount, blockCells, NamesCell}
 use Rattle.tape_promises.specs.Grammar.{ControlPayload}
 
 -- a test in a row of tests: k is its number where its condition is met, else what the tests after it say
@@ -31,28 +31,40 @@ pub record LengthFor (kind l : ℕ) : Type 0 where
   pub end : kind ≡ 3 → l ≡ 0
   pub remark : kind ≡ 4 → l ≤ 255
 
--- the tests of one record, which stands at the start of t; `after`: the record before it was the control record
-abbrev pub RecordRefused : ℕ → Bool → List ℕ → ℕ → Type 0
-RecordRefused n after t =
+-- one of the records names the cell i
+unfoldable pub SomeNames : List (List ℕ) → ℕ → Type 0
+SomeNames [] i = ⊥
+SomeNames (t ∷ ts) i = NamesCell t i ⊎ SomeNames ts i
+
+-- the record t names a cell that an earlier one names
+pub record NamesAgain (earlier : List (List ℕ)) (t : List ℕ) : Type 0 where
+  pub cell : ℕ
+  pub here : NamesCell t cell
+  pub before : SomeNames earlier cell
+
+-- the tests of one record, which stands at the start of t; `after`: the record before it was the control record; `earlier`: the records before it
+abbrev pub RecordRefused : ℕ → Bool → List (List ℕ) → List ℕ → ℕ → Type 0
+RecordRefused n after earlier t =
     Test 6 (length t < 6)
     (Test 7 ((kindOf t < 1) ⊎ (4 < kindOf t))
     (Test 11 (OutOfOrder after (kindOf t))
     (Test 8 (LengthFor (kindOf t) (lengthOf t) → ⊥)
     (Test 6 (length t < 6 + lengthOf t)
     (Test 9 ((kindOf t ≡ 1) × (n < firstCell (payloadOf t) + cellCount (payloadOf t)))
+    (Test 17 (NamesAgain earlier t)
     (Test 10 ((kindOf t ≡ 1) × (cellsFit (blockCells (payloadOf t)) ≡ false))
     (Test 3 ((kindOf t ≡ 2) × (ControlPayload (payloadOf t) → ⊥))
-    (Test 11 ((kindOf t ≡ 3) × (6 + lengthOf t < length t)) passed))))))))
+    (Test 11 ((kindOf t ≡ 3) × (6 + lengthOf t < length t)) passed)))))))))
 
 -- record by record from the left: good ones, none of them the end, then one that is refused
-pub data RecordsRefused (n : ℕ) : Bool → List ℕ → ℕ → Type 0 where
-  this-one : {after : Bool} {t : List ℕ} {k : ℕ} → RecordRefused n after t k → RecordsRefused n after t k
-  later-one : {after : Bool} {t : List ℕ} {k : ℕ} → ((j : ℕ) → RecordRefused n after t j → ⊥) → (kindOf t ≡ 3 → ⊥)
-      → RecordsRefused n (eqb (kindOf t) 2) (restOf t) k → RecordsRefused n after t k
+pub data RecordsRefused (n : ℕ) : Bool → List (List ℕ) → List ℕ → ℕ → Type 0 where
+  this-one : {after : Bool} {earlier : List (List ℕ)} {t : List ℕ} {k : ℕ} → RecordRefused n after earlier t k → RecordsRefused n after earlier t k
+  later-one : {after : Bool} {earlier : List (List ℕ)} {t : List ℕ} {k : ℕ} → ((j : ℕ) → RecordRefused n after earlier t j → ⊥) → (kindOf t ≡ 3 → ⊥)
+      → RecordsRefused n (eqb (kindOf t) 2) (t ∷ earlier) (restOf t) k → RecordsRefused n after earlier t k
 
 -- 12 (over 65,536 bytes) first
 abbrev pub TapeRefused : ℕ → List ℕ → ℕ → Type 0
-TapeRefused n t = Test 12 (65536 < length t) (RecordsRefused n false t)
+TapeRefused n t = Test 12 (65536 < length t) (RecordsRefused n false [] t)
 
 -- fewer than 8 or more than 8,388,608 cells
 abbrev pub SizeRefused : ℕ → Type 0

@@ -24,12 +24,14 @@ use Rattle.definition_tape.proofs.Machines.{machine}
 use Rattle.definition_tape.proofs.Stretches.{front}
 use Rattle.definition_tape.proofs.Lengths.{length-tape}
 use Rattle.tape_promises.proofs.Claims.{accepted-tapes}
+use Rattle.tape_promises.proofs.Once.{once-blocks}
 use Rattle.tape_promises.proofs.Numbers.{Gives, gives-none, Decides, tested, not-both, above, size-decides, exactly}
 use Rattle.definition_tape.specs.Blocks.{stretch, blocksFrom, storeBlocks}
 use Rattle.definition_tape.specs.Bytes.{recordBytes, blockBytes, blocksBytes, remarkRecord, tapeOf}
 use Rattle.definition_tape.specs.Writing.{remarkOf, remarkFits, Writable, judgeSize, judgeParts, judgeWriting, writing}
 use Rattle.writer_promises.specs.Claims.{occupied, ReadNumbers, ReadControl, WrittenTapeLength, GoodTape, RoundTrip, EqualTapes, WrittenTapes, TapeInBuffer, BufferAsGiven, remarkLength, tapeSize, LongRemark, WritingRefused, WritingNumbers}
 use Rattle.definition_tape.proofs.Bytes.{four-bytes, control-back, length-record, length-block}
+use Rattle.writer_promises.proofs.Records.{tape-once}
 use Rattle.writer_promises.proofs.Tapes.{tape-grammar, load-tape, tape-control, tape-remark}
 
 -- ---- numbers and control records are read back
@@ -75,7 +77,8 @@ written-tape-length s c m =
 pub good-tape : GoodTape
 good-tape s c m w =
     let h = machine s c (w .machine) in
-    accepted-tapes (length s) (tapeOf s c m) .1 (record { size = w .size; layout = tape-grammar s c m (h .size) (h .cells) (h .control) (w .remark) })
+    let r = tape-grammar s c m (h .size) (h .cells) (h .control) (w .remark) in
+    accepted-tapes (length s) (tapeOf s c m) .1 (record { size = w .size; layout = r; once = once-blocks r (tape-once s c m w) })
 
 fit-zeros : (n : ℕ) → cellsFit (replicate n 0) ≡ true
 unfolding cellsFit

@@ -9,8 +9,8 @@ use native.Mathlib.Decide.{decLt}
 use borrow.Author.Tests.{le-leb, lt-leb, leb-true}
 use lib.Dec.{leb}
 use lib.ListN.{length, getD}
-use Rattle.definition_tape.specs.Blocks.{Block, blocksFrom, storeBlocks}
-use Rattle.writer_promises.specs.Claims.{Named, Covers, FewestBlocks}
+use Rattle.definition_tape.specs.Blocks.{Block, Named, blocksFrom, storeBlocks}
+use Rattle.writer_promises.specs.Claims.{Covers, FewestBlocks}
 use Rattle.writer_promises.proofs.Stretches.{covers}
 
 -- ---- the blocks that begin at the cell i or later

@@ -7,10 +7,9 @@ use mathlib.Core.Logic.{_⊎_, inl, inr}
 use native.Mathlib.Omega.{arith}
 use native.Mathlib.Decide.{decLt}
 use lib.ListN.{length, getD}
-use Rattle.definition_tape.specs.Blocks.{Block, stretch, blocksFrom, storeBlocks}
+use Rattle.definition_tape.specs.Blocks.{Block, Names, Named, NamedOnce, stretch, blocksFrom, storeBlocks}
 use Rattle.definition_tape.proofs.Stretches.{stretch-cell, stretch-full}
-use Rattle.tape_promises.specs.Contents.{Names}
-use Rattle.writer_promises.specs.Claims.{Named, Covers, Rising, HoldsCells, RisingBlocks}
+use Rattle.writer_promises.specs.Claims.{Covers, Rising, HoldsCells, RisingBlocks}
 
 -- ---- they rise
 
@@ -57,6 +56,14 @@ unfolding Rising Named
 rising-named i [] j r n = absurd n
 rising-named i (b ∷ bs) j r (inl w) = omega (arith, r .0, w .from, w .below)
 rising-named i (b ∷ bs) j r (inr n) = let h = rising-named (b .first + length (b .cells) + 1) bs j (r .2) n in omega (arith, r .0)
+
+pub rising-once : (i : ℕ) (bs : List Block) → Rising i bs → NamedOnce bs
+unfolding Rising NamedOnce
+rising-once i [] r = tt
+rising-once i (b ∷ bs) r = (
+  λ j n m. let h = rising-named (b .first + length (b .cells) + 1) bs j (r .2) m in omega (arith, n .below),
+  rising-once (b .first + length (b .cells) + 1) bs (r .2),
+)
 
 pub rising-blocks : RisingBlocks
 unfolding storeBlocks

@@ -5,7 +5,6 @@ use mathlib.Core.Path.{_≡_}
 use mathlib.Core.Bool.{true, false, cond}
 use mathlib.Core.Option.{Option, none, some}
 use mathlib.Core.List.{List, [], _∷_, _++_, map}
-use mathlib.Core.Logic.{_⊎_}
 use lib.ListN.{length, getD, take, drop, replicate}
 use lib.Dec.{eqb}
 use Rattle.machine.specs.declared.Control.{Control}
@@ -17,10 +16,9 @@ use Rattle.definition_tape.specs.Judge.{judgeTape}
 use Rattle.definition_tape.specs.Load.{loading}
 use Rattle.definition_tape.specs.Remark.{remarkSpan, remarkText}
 use Rattle.acceptance.specs.Accept.{cellsFit, controlFits}
-use Rattle.definition_tape.specs.Blocks.{Block, storeBlocks}
+use Rattle.definition_tape.specs.Blocks.{Block, Named, storeBlocks}
 use Rattle.definition_tape.specs.Bytes.{bytes4, controlBytes, tapeOf}
 use Rattle.definition_tape.specs.Writing.{remarkOf, Writable, judgeWriting, writing}
-use Rattle.tape_promises.specs.Contents.{Names}
 use Rattle.tape_promises.specs.Numbers.{Test, passed, SizeRefused}
 
 -- how many cells are not zero
@@ -30,11 +28,6 @@ occupied (zero ∷ s) = occupied s
 occupied (suc x ∷ s) = 1 + occupied s
 
 -- ---- what lists of blocks are compared by
-
--- a block of the list names the cell i
-unfoldable pub Named : ℕ → List Block → Type 0
-Named i [] = ⊥
-Named i (b ∷ bs) = Names b i ⊎ Named i bs
 
 -- the blocks name every cell that is not zero, and no other
 unfoldable pub Covers : List ℕ → List Block → Type 0

@@ -9,10 +9,13 @@ pub struct Counts {
     pub typed: usize,
 }
 
-/// A machine with a tape loaded.
+/// A machine with a store of its own.
 pub trait Machine {
-    /// Loads a tape into a store of so many cells of zero.
-    fn load(cells: usize, tape: &[u8]) -> Self;
+    /// A machine with so many cells of zero.
+    fn new(cells: usize) -> Self;
+
+    /// Loads a tape.
+    fn load(&mut self, tape: &[u8]);
 
     /// One run with no lines, which must end spent or in the reset state.
     fn run(&mut self, budget: u32, characters: &[u8], typing: &mut [u8]) -> Counts;
@@ -34,16 +37,16 @@ macro_rules! machine {
         }
 
         impl Machine for $name {
-            fn load(cells: usize, tape: &[u8]) -> Self {
-                let mut store = vec![0; cells];
-                let mut control = $library::Control::fresh();
-                $library::load(&mut store, &mut control, tape).expect("the tape loads");
-                let devices = $library::Devices::default();
+            fn new(cells: usize) -> Self {
                 $name {
-                    store,
-                    control,
-                    devices,
+                    store: vec![0; cells],
+                    control: $library::Control::fresh(),
+                    devices: $library::Devices::default(),
                 }
+            }
+
+            fn load(&mut self, tape: &[u8]) {
+                $library::load(&mut self.store, &mut self.control, tape).expect("the tape loads");
             }
 
             fn run(&mut self, budget: u32, characters: &[u8], typing: &mut [u8]) -> Counts {

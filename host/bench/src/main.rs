@@ -3,10 +3,10 @@
 //! A program is a tape whose loop does not end; it is run with the largest
 //! budget again and again. An autoload is the two keys and a run until the
 //! reader's characters end. Each run is lent the same characters and typing
-//! space. In a row of the writer a call counts as one instruction. The two
-//! machines take their slices of time by turns; the pair of slices with the
-//! median ratio is shown. SECONDS is the time for each row, 4 where it is not
-//! given.
+//! space. In a row of write or load a call counts as one instruction, and for
+//! load the time of one is shown too. The two machines take their slices of time
+//! by turns; the pair of slices with the median ratio is shown. SECONDS is the
+//! time for each row, 4 where it is not given.
 //!
 //! `bench MACHINE ROW RUNS`: no table, but so many runs of the program of one
 //! row, 0 to 8, on one machine, `proved` or `emulation`, and the executed
@@ -17,7 +17,7 @@ mod rows;
 
 use emulation::MAXIMUM_TAPE;
 use machine::{Emulation, Machine};
-use rows::{Reader, Row, ROWS};
+use rows::{Reader, Row, Work, ROWS};
 use std::time::{Duration, Instant};
 
 #[cfg(not(feature = "proved"))]
@@ -35,25 +35,39 @@ struct Loaded<M> {
     autoload: bool,
     characters: Vec<u8>,
     typing: Vec<u8>,
+    /// Where the row loads: the tape.
+    loaded: Option<Vec<u8>>,
     /// Where the row writes: the buffer for the tape.
     written: Option<Vec<u8>>,
 }
 
 impl<M: Machine> Loaded<M> {
     fn new(row: &Row) -> Self {
+        let mut machine = M::new(row.cells);
+        machine.load(row.tape);
+        let loaded = match &row.work {
+            Work::Load(blocks) => Some(blocks.tape()),
+            _ => None,
+        };
+        let writes = matches!(row.work, Work::Write);
         Loaded {
-            machine: M::load(row.cells, row.tape),
+            machine,
             budget: row.budget,
             autoload: matches!(row.reader, Reader::Autoload),
             characters: row.reader.characters(),
             typing: vec![0; row.space],
-            written: row.writes.then(|| vec![0; MAXIMUM_TAPE]),
+            loaded,
+            written: writes.then(|| vec![0; MAXIMUM_TAPE]),
         }
     }
 
     /// One run with the whole budget; gives the executed instructions. Or one
-    /// call of the writer.
+    /// load or one call of the writer.
     fn run(&mut self) -> u64 {
+        if let Some(tape) = &self.loaded {
+            self.machine.load(tape);
+            return 1;
+        }
         if let Some(tape) = &mut self.written {
             assert_ne!(self.machine.write(tape), 0);
             return 1;
@@ -138,15 +152,19 @@ fn table(seconds: f64) {
     } else {
         "emulation"
     };
-    println!("instructions per second, in millions (written tapes in the rows of write); ratio of the two speeds");
+    println!("instructions per second, in millions (tapes in the rows of write and load); ratio of the two speeds");
     println!(
-        "{:28} {tested:>10} {:>10} {:>7}",
+        "{:36} {tested:>10} {:>10} {:>7}",
         "program", "emulation", "ratio"
     );
     for row in &ROWS {
         let (tested, emulation) = measure(row, seconds);
+        let time = match row.work {
+            Work::Load(_) => format!("  {:.1} microseconds each", 1e6 / tested),
+            _ => String::new(),
+        };
         println!(
-            "{:28} {:>10} {:>10} {:>7.2}",
+            "{:36} {:>10} {:>10} {:>7.2}{time}",
             row.name,
             millions(tested),
             millions(emulation),

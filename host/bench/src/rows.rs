@@ -14,6 +14,32 @@ pub enum Reader {
     Autoload,
 }
 
+/// What is made again and again in a row.
+pub enum Work {
+    /// A run, with the two keys before it where the reader has the tape of an
+    /// autoload.
+    Run,
+    /// A call of the writer.
+    Write,
+    /// A load of the tape with these blocks, into the machine as it is.
+    Load(Blocks),
+}
+
+/// The blocks of a tape: so many, of so many cells each, in this order.
+pub struct Blocks {
+    pub count: u32,
+    pub cells: u32,
+    pub order: Order,
+}
+
+/// The order of the blocks of a tape.
+pub enum Order {
+    Rising,
+    Falling,
+    /// A fixed one in which neighbours on the tape lie far apart.
+    Mixed,
+}
+
 /// A row of the table.
 pub struct Row {
     pub name: &'static str,
@@ -23,8 +49,7 @@ pub struct Row {
     pub reader: Reader,
     /// Typing space of a run.
     pub space: usize,
-    /// A call of the writer stands in the place of a run.
-    pub writes: bool,
+    pub work: Work,
 }
 
 macro_rules! tape {
@@ -41,7 +66,7 @@ const fn program(name: &'static str, tape: &'static [u8]) -> Row {
         budget: LARGEST_BUDGET,
         reader: Reader::Characters(0),
         space: 0,
-        writes: false,
+        work: Work::Run,
     }
 }
 
@@ -61,12 +86,24 @@ const fn calls(name: &'static str, cells: usize) -> Row {
 
 const fn writes(name: &'static str, cells: usize) -> Row {
     Row {
-        writes: true,
+        work: Work::Write,
         ..calls(name, cells)
     }
 }
 
-pub const ROWS: [Row; 14] = [
+const fn loads(name: &'static str, count: u32, cells: u32, order: Order) -> Row {
+    let blocks = Blocks {
+        count,
+        cells,
+        order,
+    };
+    Row {
+        work: Work::Load(blocks),
+        ..calls(name, 16_384)
+    }
+}
+
+pub const ROWS: [Row; 17] = [
     program("register loop", tape!("registers")),
     program("byte copy loop", tape!("bytes")),
     program("multiply loop (WM)", tape!("multiply")),
@@ -90,7 +127,41 @@ pub const ROWS: [Row; 14] = [
     calls("budget 1, 8,388,608 cells", 8_388_608),
     writes("write, 1,048,576 cells", 1_048_576),
     writes("write, 8,388,608 cells", 8_388_608),
+    loads("load, one block", 1, 4000, Order::Rising),
+    loads(
+        "load, 4,600 blocks in falling order",
+        4600,
+        1,
+        Order::Falling,
+    ),
+    loads("load, 4,600 blocks in mixed order", 4600, 1, Order::Mixed),
 ];
+
+impl Blocks {
+    /// The tape: after each block two cells are left out; control record and end
+    /// are those of the tape of document 01.
+    pub fn tape(&self) -> Vec<u8> {
+        let mut tape = Vec::new();
+        for number in 0..self.count {
+            let place = match self.order {
+                Order::Rising => number,
+                Order::Falling => self.count - 1 - number,
+                // 2843 and 4600 have no divisor in common.
+                Order::Mixed => number * 2843 % self.count,
+            };
+            tape.extend((4 + 4 * self.cells).to_le_bytes());
+            tape.extend([1, 0]);
+            tape.extend((place * (self.cells + 2)).to_le_bytes());
+            let cells = 0..self.cells;
+            tape.extend(cells.flat_map(|cell| (place + cell + 1).to_le_bytes()));
+        }
+        tape.extend([20, 0, 0, 0, 2, 0]);
+        tape.extend([0; 16]);
+        tape.extend([128, 0, 5, 0]);
+        tape.extend([0, 0, 0, 0, 3, 0]);
+        tape
+    }
+}
 
 impl Reader {
     /// Its characters.

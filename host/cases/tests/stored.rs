@@ -53,7 +53,11 @@ fn is_left_out(name: &str) -> bool {
     let damaged = compare::DAMAGES
         .iter()
         .any(|damage| format!("{damage:?}") == name);
-    damaged || name == "largest store" || about_tapes.iter().any(|start| name.starts_with(start))
+    let about_blocks = compare::BLOCK_EVENTS.contains(&name);
+    damaged
+        || about_blocks
+        || name == "largest store"
+        || about_tapes.iter().any(|start| name.starts_with(start))
 }
 
 #[test]

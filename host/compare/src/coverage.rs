@@ -3,6 +3,7 @@
 //! A run is gone through again cycle by cycle by the emulation, to see which
 //! instruction each cycle met and what became of it.
 
+use crate::block_events::{block_events, load_events, BLOCK_EVENTS};
 use crate::device_events::{key_events, run_events, DeviceInstruction, DEVICE_EVENTS};
 use crate::generator::Case;
 use crate::stretch::Stretch;
@@ -102,7 +103,14 @@ const EVENTS: [&str; 28] = [
 ];
 
 fn all_events() -> impl Iterator<Item = &'static str> {
-    EVENTS.into_iter().chain(DEVICE_EVENTS).chain(WRITE_EVENTS)
+    let others = DEVICE_EVENTS.into_iter().chain(WRITE_EVENTS);
+    EVENTS.into_iter().chain(others).chain(BLOCK_EVENTS)
+}
+
+/// The names whose condition holds.
+pub fn holding(names: &[(bool, &'static str)]) -> Vec<&'static str> {
+    let held = names.iter().filter(|(holds, _)| *holds);
+    held.map(|&(_, name)| name).collect()
 }
 
 fn add<K: Ord>(counts: &mut BTreeMap<K, u64>, key: K) {
@@ -146,10 +154,11 @@ impl Coverage {
                 characters,
                 ..
             } => self.events(key_events(control, devices, characters, answer)),
-            Request::Load { tape, .. } | Request::Remark { tape, .. } => {
-                let taken = !matches!(answer, Answer::Refused(_));
-                self.event_if(taken && tape.len() == 65_536, "tape of 65,536 bytes");
+            Request::Load { store, tape } => {
+                self.count_tape(store.size, tape, answer);
+                self.events(load_events(store, tape, answer));
             }
+            Request::Remark { cells, tape } => self.count_tape(*cells, tape, answer),
             Request::Write(write) => self.events(write_events(write, answer)),
             _ => (),
         }
@@ -168,6 +177,12 @@ impl Coverage {
         if condition {
             self.event(name);
         }
+    }
+
+    fn count_tape(&mut self, cells: usize, tape: &[u8], answer: &Answer) {
+        let taken = !matches!(answer, Answer::Refused(_));
+        self.event_if(taken && tape.len() == 65_536, "tape of 65,536 bytes");
+        self.events(block_events(cells, tape, answer));
     }
 
     fn count_answer(&mut self, request: &Request, answer: &Answer) {
@@ -336,6 +351,11 @@ impl Coverage {
         times(&self.answers, (6, 0))
     }
 
+    /// How many tapes were refused for overlapping blocks.
+    pub fn overlapping(&self) -> u64 {
+        times(&self.answers, (4, 17)) + times(&self.answers, (5, 17))
+    }
+
     /// What no case was about.
     pub fn missing(&self) -> Vec<String> {
         let mut missing = self.missing_instructions();
@@ -410,8 +430,8 @@ const EXPECTED_ANSWERS: [&[u32]; 7] = [
     &[0, 1, 2, 3],
     &[0, 1, 2, 3],
     &[0, 1, 2, 3, 13],
-    &[0, 1, 2, 3, 6, 7, 8, 9, 10, 11, 12],
-    &[0, 1, 3, 6, 7, 8, 9, 10, 11, 12],
+    &[0, 1, 2, 3, 6, 7, 8, 9, 10, 11, 12, 17],
+    &[0, 1, 3, 6, 7, 8, 9, 10, 11, 12, 17],
     &[0, 1, 2, 3, 14, 15, 16],
 ];
 
@@ -527,7 +547,7 @@ impl Coverage {
                 "  {name}: done {}",
                 times(&self.answers, (call, 0))
             )?;
-            for number in 1..=16 {
+            for number in 1..=17 {
                 if let Some(times) = self.answers.get(&(call, number)) {
                     write!(formatter, ", refused {number} {times}")?;
                 }

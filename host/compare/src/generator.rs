@@ -5,6 +5,7 @@ use crate::machines::{self, Image};
 use crate::random::Random;
 use crate::tapes::{self, Damage};
 use crate::writes::{self, refuse_length, refuse_remark, refuse_space};
+use emulation::MAXIMUM_CELLS;
 use protocol::{Request, Run, Write};
 
 /// A request, with what was done to its tape.
@@ -151,7 +152,10 @@ fn load(random: &mut Random) -> Case {
 }
 
 fn remark(random: &mut Random) -> Case {
-    let size = machines::size(random);
+    let size = match random.below(40) {
+        0 => MAXIMUM_CELLS,
+        _ => machines::size(random),
+    };
     let (tape, damages) = tapes::tape(random, size);
     let cells = if random.one_in(12) {
         random.pick(&[0, 1, 7, 8_388_609, 1 << 24, usize::MAX])

@@ -3,6 +3,8 @@
 #![forbid(unsafe_code)]
 #![warn(missing_docs)]
 
+mod block_events;
+mod blocks;
 mod coverage;
 mod device_events;
 mod generator;
@@ -15,6 +17,8 @@ mod words;
 mod write_events;
 mod writes;
 
+pub use block_events::BLOCK_EVENTS;
+pub use blocks::{blocks, first_overlap, overlap, overlaps_earlier, Block, Overlap};
 pub use coverage::{Coverage, MNEMONICS};
 pub use generator::{case, Case};
 pub use tapes::{Damage, DAMAGES};

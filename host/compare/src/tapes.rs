@@ -1,7 +1,9 @@
 //! Random load tapes, and the ways to damage one.
 
+use crate::blocks::{named, BLOCK, REMARK};
 use crate::random::Random;
 use crate::words::word;
+use std::ops::Range;
 
 /// What is done to a tape.
 #[derive(Clone, Copy, Debug, PartialEq, Eq)]
@@ -36,6 +38,20 @@ pub enum Damage {
     BlockBeyond,
     /// A block whose first cell is as far away as can be.
     BlockFarBeyond,
+    /// A block that names the cells of an earlier one again.
+    BlockAgain,
+    /// A block inside an earlier one.
+    BlockInside,
+    /// A block around an earlier one.
+    BlockAround,
+    /// A block over the left end of an earlier one.
+    BlockOverLeftEnd,
+    /// A block over the right end of an earlier one.
+    BlockOverRightEnd,
+    /// A block that overlaps an earlier one and has a cell that is too large.
+    OverlapTooLarge,
+    /// A block that overlaps an earlier one and goes beyond the store.
+    OverlapBeyond,
     /// A cell of 134,217,728 or more.
     CellTooLarge,
     /// IC, IR, IM or pending over 24 bits.
@@ -59,7 +75,7 @@ pub enum Damage {
 }
 
 /// All of them, in order.
-pub const DAMAGES: [Damage; 25] = [
+pub const DAMAGES: [Damage; 32] = [
     Damage::HeaderCut,
     Damage::PayloadCut,
     Damage::NoEnd,
@@ -75,6 +91,13 @@ pub const DAMAGES: [Damage; 25] = [
     Damage::LengthBeyondTape,
     Damage::BlockBeyond,
     Damage::BlockFarBeyond,
+    Damage::BlockAgain,
+    Damage::BlockInside,
+    Damage::BlockAround,
+    Damage::BlockOverLeftEnd,
+    Damage::BlockOverRightEnd,
+    Damage::OverlapTooLarge,
+    Damage::OverlapBeyond,
     Damage::CellTooLarge,
     Damage::WideField,
     Damage::Protection,
@@ -87,10 +110,24 @@ pub const DAMAGES: [Damage; 25] = [
     Damage::ByteChanged,
 ];
 
-const BLOCK: u16 = 1;
+/// Those that add a block which overlaps an earlier one; what the first five
+/// say is how.
+const OVERLAPS: [Damage; 7] = [
+    Damage::BlockAgain,
+    Damage::BlockInside,
+    Damage::BlockAround,
+    Damage::BlockOverLeftEnd,
+    Damage::BlockOverRightEnd,
+    Damage::OverlapTooLarge,
+    Damage::OverlapBeyond,
+];
+
 const CONTROL: u16 = 2;
 const END: u16 = 3;
-const REMARK: u16 = 4;
+
+/// The cells that many blocks are spread over, and the most that an overlapping
+/// block beyond the store has within it.
+const MANY: usize = 4096;
 
 /// A record while a tape is made. `length` is what its header says.
 struct Record {
@@ -106,6 +143,11 @@ impl Record {
             kind,
             payload,
         }
+    }
+
+    /// The cells that it names, where it is a block.
+    fn named(&self) -> Option<Range<usize>> {
+        named(&self.payload).filter(|_| self.kind == BLOCK)
     }
 
     /// Sets a payload and the length with it.
@@ -139,36 +181,98 @@ pub fn tape(random: &mut Random, size: usize) -> (Vec<u8>, Vec<Damage>) {
     (tape, damages)
 }
 
-/// Blocks and remarks in any order, the control record and the end.
+/// Blocks that do not overlap and remarks, the control record and the end.
 fn records(random: &mut Random, size: usize) -> Vec<Record> {
-    let mut records = Vec::new();
-    for _ in 0..random.below(6) {
-        records.push(if random.percent(60) {
-            block(random, size)
-        } else {
-            remark(random)
-        });
-    }
+    let mut records = if size >= MANY && random.one_in(16) {
+        many_blocks(random, size)
+    } else {
+        few_blocks(random, size)
+    };
     records.push(control(random));
     records.push(Record::new(END, Vec::new()));
     records
 }
 
+/// At most five blocks and remarks in any order.
+fn few_blocks(random: &mut Random, size: usize) -> Vec<Record> {
+    let mut records = Vec::new();
+    for _ in 0..random.below(6) {
+        let free = free_stretches(&records, size);
+        records.push(if !free.is_empty() && random.percent(60) {
+            let any = random.below(free.len() as u32) as usize;
+            block_in(random, &free[any], size)
+        } else {
+            remark(random)
+        });
+    }
+    records
+}
+
+/// A remark and a thousand blocks or more, of one to three cells, in rising,
+/// falling or mixed order.
+fn many_blocks(random: &mut Random, size: usize) -> Vec<Record> {
+    let step = 1 + random.below(3);
+    let base = random.pick(&[0, size - MANY]);
+    let mut places: Vec<u32> = (0..MANY as u32 / step).collect();
+    match random.below(3) {
+        0 => (),
+        1 => places.reverse(),
+        _ => {
+            for place in (1..places.len()).rev() {
+                places.swap(place, random.below(place as u32 + 1) as usize);
+            }
+        }
+    }
+    let mut records = vec![remark(random)];
+    for place in places {
+        let first = base + (step * place) as usize;
+        let count = 1 + random.below(step) as usize;
+        records.push(block_of(random, first..first + count, size));
+    }
+    records
+}
+
+/// The stretches of cells that no block names.
+fn free_stretches(records: &[Record], size: usize) -> Vec<Range<usize>> {
+    let mut named: Vec<Range<usize>> = records.iter().filter_map(Record::named).collect();
+    named.sort_by_key(|cells| cells.start);
+    named.push(size..size);
+    let mut free = Vec::new();
+    let mut next = 0;
+    for cells in named {
+        if next < cells.start {
+            free.push(next..cells.start);
+        }
+        next = cells.end;
+    }
+    free
+}
+
 fn block(random: &mut Random, size: usize) -> Record {
-    let size = size.min(4096) as u32;
+    block_in(random, &(0..size), size)
+}
+
+/// A block in a stretch of cells, often at one of its ends.
+fn block_in(random: &mut Random, free: &Range<usize>, size: usize) -> Record {
+    let room = free.len() as u32;
     let count = match random.below(6) {
         0 => 1,
-        1 => size.min(64),
-        _ => 1 + random.below(size.min(12)),
+        1 => room.min(64),
+        _ => 1 + random.below(room.min(12)),
     };
-    let room = size - count;
-    let any = random.below(room + 1);
-    let first = random.pick(&[0, room, any]);
-    let mut payload = first.to_le_bytes().to_vec();
-    for _ in 0..count {
+    let left = room - count;
+    let any = random.below(left + 1);
+    let first = free.start + random.pick(&[0, left, any]) as usize;
+    block_of(random, first..first + count as usize, size)
+}
+
+/// The block of these cells.
+fn block_of(random: &mut Random, cells: Range<usize>, size: usize) -> Record {
+    let mut payload = (cells.start as u32).to_le_bytes().to_vec();
+    for _ in cells {
         let cell = match random.below(8) {
             0 => random.pick(&[0, 1, 134_217_727, 134_217_726]),
-            _ => (random.below(8) << 24) | word(random, size as usize),
+            _ => (random.below(8) << 24) | word(random, size.min(MANY)),
         };
         payload.extend(cell.to_le_bytes());
     }
@@ -253,6 +357,9 @@ fn kind_for(damage: Damage) -> u16 {
 }
 
 fn damage_records(random: &mut Random, records: &mut Vec<Record>, damage: Damage, size: usize) {
+    if OVERLAPS.contains(&damage) {
+        return add_overlap(random, records, damage, size);
+    }
     let place = place_of(random, records, kind_for(damage), size);
     match damage {
         Damage::NoEnd => {
@@ -283,6 +390,55 @@ fn damage_records(random: &mut Random, records: &mut Vec<Record>, damage: Damage
             records[any].length = random.pick(&[255, 256, 260, 65_536, 1 << 31, u32::MAX - 3]);
         }
         _ => damage_payload(random, &mut records[place], damage, size),
+    }
+}
+
+/// Adds a block that overlaps an earlier one, before the control record.
+fn add_overlap(random: &mut Random, records: &mut Vec<Record>, damage: Damage, size: usize) {
+    place_of(random, records, BLOCK, size);
+    let blocks: Vec<(usize, Range<usize>)> = (0..)
+        .zip(records.iter())
+        .filter_map(|(place, record)| Some((place, record.named()?)))
+        .filter(|(_, cells)| cells.end <= size)
+        .collect();
+    if blocks.is_empty() {
+        return;
+    }
+    let (place, earlier) = &blocks[random.below(blocks.len() as u32) as usize];
+    let cells = overlapping(random, earlier, damage, size);
+    let mut record = block_of(random, cells, size);
+    if damage == Damage::OverlapTooLarge {
+        damage_payload(random, &mut record, Damage::CellTooLarge, size);
+    }
+    let control = records.iter().position(|record| record.kind == CONTROL);
+    let last = control.unwrap_or(0).max(place + 1);
+    let later = place + 1 + random.below((last - place) as u32) as usize;
+    records.insert(later, record);
+}
+
+/// The cells of a block that overlaps an earlier one, by one cell or by more, as
+/// the damage says where the store has room for it.
+fn overlapping(
+    random: &mut Random,
+    earlier: &Range<usize>,
+    damage: Damage,
+    size: usize,
+) -> Range<usize> {
+    let (first, last) = (earlier.start, earlier.end - 1);
+    let before = first.saturating_sub(1 + random.below(4) as usize);
+    let behind = (earlier.end + 1 + random.below(4) as usize).min(size);
+    let [from, to] = [0; 2].map(|_| first + random.below(earlier.len() as u32) as usize);
+    match damage {
+        Damage::BlockAgain => earlier.clone(),
+        Damage::BlockInside => from.min(to)..from.max(to) + 1,
+        Damage::BlockAround => before..behind,
+        Damage::BlockOverLeftEnd => before..random.pick(&[first, from]) + 1,
+        Damage::BlockOverRightEnd => random.pick(&[last, from])..behind,
+        Damage::OverlapBeyond if size - from <= MANY => from..size + random.pick(&[1, 2]),
+        _ => {
+            let how = random.pick(&OVERLAPS[..5]);
+            overlapping(random, earlier, how, size)
+        }
     }
 }
 

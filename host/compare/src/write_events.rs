@@ -1,5 +1,6 @@
 //! What cases were about, as far as the writer goes: names for `Coverage`.
 
+use crate::coverage::holding;
 use crate::words::WORD;
 use crate::writes::length;
 use emulation::{Refusal, MAXIMUM_TAPE};
@@ -50,12 +51,6 @@ pub fn write_events(write: &Write, answer: &Answer) -> Vec<&'static str> {
         Answer::Refused(refusal) => refusal_events(write, *refusal, length),
         _ => Vec::new(),
     }
-}
-
-/// The names whose condition holds.
-fn holding(names: &[(bool, &'static str)]) -> Vec<&'static str> {
-    let held = names.iter().filter(|(holds, _)| *holds);
-    held.map(|&(_, name)| name).collect()
 }
 
 fn remark_event(write: &Write) -> &'static str {

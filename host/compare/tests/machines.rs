@@ -1,6 +1,6 @@
 //! The emulation against itself, and against machines with one flaw each.
 
-use compare::{case, compare, Coverage};
+use compare::{blocks, case, compare, first_overlap, overlap, overlaps_earlier, Block, Coverage};
 use protocol::{
     output_buffer, Control, Devices, Emulation, Kind, Listed, Machine, Outcome, Refusal, Report,
     Request,
@@ -95,10 +95,19 @@ enum Flaw {
     WriteRefusesLongestTape,
     WriteRefusesLongestRemark,
     WriteTestsBufferFirst,
+    OverlapPasses,
+    OverlapPassesForRemark,
+    OverlapOnlyWithBlockBefore,
+    OverlapNotByOneCell,
+    OverlapOfTouchingBlocks,
+    OverlapBeforePlace,
+    OverlapAfterCells,
+    OverlapAfterTape,
+    OverlapLoadsFirstBlock,
 }
 
 /// All of them.
-const FLAWS: [Flaw; 39] = [
+const FLAWS: [Flaw; 48] = [
     Flaw::Outcome,
     Flaw::LineNumber,
     Flaw::Executed,
@@ -138,6 +147,15 @@ const FLAWS: [Flaw; 39] = [
     Flaw::WriteRefusesLongestTape,
     Flaw::WriteRefusesLongestRemark,
     Flaw::WriteTestsBufferFirst,
+    Flaw::OverlapPasses,
+    Flaw::OverlapPassesForRemark,
+    Flaw::OverlapOnlyWithBlockBefore,
+    Flaw::OverlapNotByOneCell,
+    Flaw::OverlapOfTouchingBlocks,
+    Flaw::OverlapBeforePlace,
+    Flaw::OverlapAfterCells,
+    Flaw::OverlapAfterTape,
+    Flaw::OverlapLoadsFirstBlock,
 ];
 
 /// The emulation with one flaw.
@@ -269,9 +287,20 @@ impl Machine for Flawed {
 
     fn load(&self, store: &mut [u32], control: &mut Control, tape: &[u8]) -> Result<(), Refusal> {
         let last = store.last().copied();
-        Emulation
-            .load(store, control, tape)
-            .map_err(|refusal| self.refusal(refusal, store, control))?;
+        let given = (store.to_vec(), *control);
+        let result = Emulation.load(store, control, tape);
+        let judged = self.judged(tape, store.len(), result);
+        if judged.is_err() {
+            store.copy_from_slice(&given.0);
+            *control = given.1;
+        }
+        if let (Flaw::OverlapLoadsFirstBlock, Err(Refusal::BlockOverlap)) = (self.0, judged) {
+            let first = &blocks(tape)[0];
+            for (cell, value) in first.cells.clone().zip(first.values()) {
+                store[cell] = value;
+            }
+        }
+        judged.map_err(|refusal| self.refusal(refusal, store, control))?;
         if let (Flaw::LoadsOneCellLess, Some(last)) = (self.0, last) {
             let place = store.len() - 1;
             store[place] = last;
@@ -280,7 +309,12 @@ impl Machine for Flawed {
     }
 
     fn remark<'t>(&self, tape: &'t [u8], cells: usize) -> Result<Option<&'t [u8]>, Refusal> {
-        let text = Emulation.remark(tape, cells)?;
+        let result = Emulation.remark(tape, cells);
+        if let (Flaw::OverlapPassesForRemark, Err(Refusal::BlockOverlap)) = (self.0, result) {
+            return Ok(None);
+        }
+        self.judged(tape, cells, result.map(|_| ()))?;
+        let text = result.unwrap_or(None);
         Ok(match self.0 {
             Flaw::Remark => text.filter(|text| !text.is_empty()),
             _ => text,
@@ -303,6 +337,76 @@ impl Machine for Flawed {
         match result {
             Ok(length) => self.spoil_tape(length, remark, tape),
             Err(refusal) => Err(self.spoil_write_refusal(refusal, tape)),
+        }
+    }
+}
+
+/// Whether the first block that overlaps an earlier one overlaps the one just
+/// before it.
+fn overlaps_block_before(blocks: &[Block]) -> bool {
+    first_overlap(blocks)
+        .is_some_and(|place| overlap(&blocks[place].cells, &blocks[place - 1].cells).is_some())
+}
+
+/// Whether the first block that overlaps earlier ones has one cell in common
+/// with them.
+fn overlaps_by_one_cell(blocks: &[Block]) -> bool {
+    let Some(place) = first_overlap(blocks) else {
+        return false;
+    };
+    let named = |cell: &usize| {
+        blocks[..place]
+            .iter()
+            .any(|block| block.cells.contains(cell))
+    };
+    blocks[place].cells.clone().filter(named).count() == 1
+}
+
+fn touch(blocks: &[Block]) -> bool {
+    let ends = |cell: usize| blocks.iter().any(|block| block.cells.end == cell);
+    blocks.iter().any(|block| ends(block.cells.start))
+}
+
+impl Flawed {
+    /// What the tests of a tape for so many cells give in place of this.
+    fn judged(
+        &self,
+        tape: &[u8],
+        cells: usize,
+        result: Result<(), Refusal>,
+    ) -> Result<(), Refusal> {
+        let blocks = blocks(tape);
+        match result {
+            Ok(()) => match self.0 {
+                Flaw::OverlapOfTouchingBlocks if touch(&blocks) => Err(Refusal::BlockOverlap),
+                _ => Ok(()),
+            },
+            Err(Refusal::BlockPlace) => {
+                let beyond = blocks.iter().position(|block| block.cells.end > cells);
+                let both = beyond.is_some_and(|place| overlaps_earlier(&blocks, place));
+                Err(match self.0 {
+                    Flaw::OverlapBeforePlace if both => Refusal::BlockOverlap,
+                    _ => Refusal::BlockPlace,
+                })
+            }
+            Err(Refusal::BlockOverlap) => self.judged_overlap(&blocks, cells),
+            Err(refusal) => Err(refusal),
+        }
+    }
+
+    /// What refusal 17 of a tape with these blocks becomes.
+    fn judged_overlap(&self, blocks: &[Block], cells: usize) -> Result<(), Refusal> {
+        let overlapping = &blocks[first_overlap(blocks).unwrap()];
+        match self.0 {
+            Flaw::OverlapPasses => Ok(()),
+            Flaw::OverlapOnlyWithBlockBefore if !overlaps_block_before(blocks) => Ok(()),
+            Flaw::OverlapNotByOneCell if overlaps_by_one_cell(blocks) => Ok(()),
+            Flaw::OverlapAfterCells if overlapping.is_too_large() => Err(Refusal::BlockCell),
+            Flaw::OverlapAfterTape => {
+                let rest = Emulation.remark(&overlapping.tape_without(), cells).err();
+                Err(rest.unwrap_or(Refusal::BlockOverlap))
+            }
+            _ => Err(Refusal::BlockOverlap),
         }
     }
 }
@@ -425,12 +529,22 @@ fn a_change_that_both_make_is_found() {
         Flaw::WritesOneByteLess,
         Flaw::WritesBehindTape,
         Flaw::WriteRefusalChangesTape,
+        Flaw::OverlapLoadsFirstBlock,
     ] {
         let mut coverage = Coverage::default();
         let result = compare(Flawed(flaw), Flawed(flaw), 1, 100_000, &mut coverage);
         let difference = result.err().unwrap_or_else(|| panic!("{flaw:?} not found"));
         assert_eq!(difference.tested, difference.expected);
     }
+}
+
+/// Of the tapes, one case in seven, at least one in ten is refused with 17.
+#[test]
+fn many_tapes_overlap() {
+    let mut coverage = Coverage::default();
+    let result = compare(Emulation, Emulation, 4000, 50_000, &mut coverage);
+    assert!(result.is_ok());
+    assert!(coverage.overlapping() > 700, "{}", coverage.overlapping());
 }
 
 /// At least one case in ten is a machine that is written.

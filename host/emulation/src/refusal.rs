@@ -37,6 +37,8 @@ pub enum Refusal {
     WrittenLength = 15,
     /// 16: an output buffer shorter than the tape.
     BufferLength = 16,
+    /// 17: a block names a cell that an earlier block of the tape names.
+    BlockOverlap = 17,
 }
 
 impl Refusal {
@@ -65,6 +67,7 @@ impl Refusal {
             RemarkLength,
             WrittenLength,
             BufferLength,
+            BlockOverlap,
         ];
         all.into_iter().find(|refusal| refusal.number() == number)
     }

@@ -1,5 +1,5 @@
-//! The load tape and its remark (01, "Load tape"), and the writer of tapes (02,
-//! E2).
+//! The load tape and its remark (01, "Load tape"; 02, E4), and the writer of
+//! tapes (02, E2).
 
 use crate::control::Control;
 use crate::refusal::Refusal;
@@ -91,12 +91,18 @@ fn next_record<'a>(tape: &'a [u8], control_seen: bool) -> Result<(Record<'a>, &'
     Ok((Record { kind, payload }, rest))
 }
 
-/// Refusals 9 and 10.
-fn check_block(payload: &[u8], cells: usize) -> Result<(), Refusal> {
+/// Refusals 9, 17 and 10, in this order. `named` tells of each cell of the store
+/// whether an earlier block names it, and afterwards whether this one does too.
+fn check_block(payload: &[u8], named: &mut [bool]) -> Result<(), Refusal> {
     let mut block = cells_of(payload);
-    if first_cell(payload) + block.len() > cells {
+    let first = first_cell(payload);
+    let Some(part) = named.get_mut(first..first + block.len()) else {
         return Err(Refusal::BlockPlace);
+    };
+    if part.contains(&true) {
+        return Err(Refusal::BlockOverlap);
     }
+    part.fill(true);
     if block.any(|cell| cell >= CELL_LIMIT) {
         return Err(Refusal::BlockCell);
     }
@@ -130,13 +136,14 @@ fn judge(tape: &[u8], cells: usize) -> Result<Control, Refusal> {
     if tape.len() > MAXIMUM_TAPE {
         return Err(Refusal::TapeLength);
     }
+    let mut named = vec![false; cells];
     let mut control = None;
     let mut left = tape;
     loop {
         let (record, rest) = next_record(left, control.is_some())?;
         left = rest;
         match record.kind {
-            RecordKind::Block => check_block(record.payload, cells)?,
+            RecordKind::Block => check_block(record.payload, &mut named)?,
             RecordKind::Control => control = Some(control_of(record.payload)?),
             RecordKind::Remark => (),
             RecordKind::End if !left.is_empty() => return Err(Refusal::RecordOrder),

@@ -67,19 +67,19 @@ fn the_tape_of_the_paper() {
 }
 
 #[test]
-fn later_blocks_overwrite_and_other_cells_stay() {
+fn blocks_are_loaded_and_other_cells_stay() {
     let tape = [
-        block(2, &[20, 21, 22]),
+        block(2, &[20, 21]),
         record(4, b""),
         record(4, b"second"),
-        block(3, &[31]),
+        block(5, &[50]),
         good_control(),
         end(),
     ]
     .concat();
     let mut store = vec![9; 8];
     load(&mut store, &mut Control::fresh(), &tape).unwrap();
-    assert_eq!(store, [9, 9, 20, 31, 22, 9, 9, 9]);
+    assert_eq!(store, [9, 9, 20, 21, 9, 50, 9, 9]);
     let text = remark(&tape, 8).unwrap().unwrap();
     assert!(text.is_empty());
 }
@@ -123,6 +123,101 @@ fn tape_refusals() {
     );
     assert_eq!(refusal(&[vec![0; 65_537]]), Refusal::TapeLength);
     assert_eq!(refusal(&[vec![0; 65_536]]), Refusal::RecordKind);
+}
+
+/// The refusal of blocks with so many cells of zero from these first cells on.
+fn refusal_of_blocks(blocks: &[(u32, usize)]) -> Refusal {
+    let mut parts: Vec<Vec<u8>> = blocks
+        .iter()
+        .map(|&(first, count)| block(first, &vec![0; count]))
+        .collect();
+    parts.extend([good_control(), end()]);
+    refusal(&parts)
+}
+
+#[test]
+fn overlapping_blocks() {
+    for later in [
+        (4, 3), // equal
+        (5, 1), // inside
+        (4, 2),
+        (3, 5), // around
+        (0, 16),
+        (2, 3), // by one cell at the left end
+        (3, 3),
+        (6, 1), // by one cell at the right end
+        (5, 11),
+    ] {
+        assert_eq!(refusal_of_blocks(&[(4, 3), later]), Refusal::BlockOverlap);
+        assert_eq!(refusal_of_blocks(&[later, (4, 3)]), Refusal::BlockOverlap);
+        let apart = [(0, 1), (4, 3), (15, 1), later];
+        assert_eq!(refusal_of_blocks(&apart), Refusal::BlockOverlap);
+    }
+}
+
+/// Every order of blocks that touch each other and both ends of the store.
+#[test]
+fn touching_blocks() {
+    let blocks = [
+        block(0, &[1, 2]),
+        block(2, &[3]),
+        block(3, &[4, 5, 6, 7, 8]),
+    ];
+    for order in [
+        [0, 1, 2],
+        [0, 2, 1],
+        [1, 0, 2],
+        [1, 2, 0],
+        [2, 0, 1],
+        [2, 1, 0],
+    ] {
+        let mut tape = order.map(|place| blocks[place].clone()).concat();
+        tape.extend([good_control(), end()].concat());
+        let mut store = vec![9; 8];
+        load(&mut store, &mut Control::fresh(), &tape).unwrap();
+        assert_eq!(store, [1, 2, 3, 4, 5, 6, 7, 8]);
+        assert_eq!(remark(&tape, 8), Ok(None));
+    }
+}
+
+#[test]
+fn overlap_is_tested_after_9_and_before_10() {
+    let (first, bad) = (block(14, &[5]), u32::MAX);
+    let beyond = [first.clone(), block(14, &[0, bad, 0])];
+    assert_eq!(refusal(&beyond), Refusal::BlockPlace);
+    let overlapping = [first, block(13, &[bad, 0, bad])];
+    assert_eq!(refusal(&overlapping), Refusal::BlockOverlap);
+    let earlier = [block(14, &[bad]), block(14, &[0])];
+    assert_eq!(refusal(&earlier), Refusal::BlockCell);
+    let later = [block(14, &[0]), block(14, &[0]), vec![0; 5]];
+    assert_eq!(refusal(&later), Refusal::BlockOverlap);
+}
+
+#[test]
+fn overlap_behind_many_blocks() {
+    let falling: Vec<Vec<u8>> = (0..4600)
+        .rev()
+        .map(|place| block(2 * place, &[1]))
+        .collect();
+    let last = [good_control(), end()].concat();
+    let tape = [falling.concat(), last.clone()].concat();
+    let mut store = vec![0; 9200];
+    load(&mut store, &mut Control::fresh(), &tape).unwrap();
+    assert_eq!(store, [1, 0].repeat(4600));
+    for cell in [0, 4600, 9198] {
+        let tape = [falling.concat(), block(cell, &[1]), last.clone()].concat();
+        assert_eq!(remark(&tape, 9200), Err(Refusal::BlockOverlap));
+        let tape = [falling.concat(), block(cell + 1, &[1]), last.clone()].concat();
+        assert_eq!(remark(&tape, 9200), Ok(None));
+    }
+}
+
+#[test]
+fn the_number_of_the_overlap() {
+    assert_eq!(Refusal::BlockOverlap.number(), 17);
+    assert_eq!(Refusal::from_number(17), Some(Refusal::BlockOverlap));
+    assert_eq!(Refusal::BlockOverlap.to_string(), "refused 17");
+    assert_eq!(Refusal::from_number(18), None);
 }
 
 #[test]

@@ -274,5 +274,4 @@ fn the_numbers_of_the_refusals() {
         assert_eq!(Refusal::from_number(number), Some(refusal));
         assert_eq!(refusal.to_string(), format!("refused {number}"));
     }
-    assert_eq!(Refusal::from_number(17), None);
 }

@@ -11,7 +11,7 @@ fn vectors(name: &str) -> String {
 
 #[test]
 fn stored_answers() {
-    let (cases, answers) = (vectors("e2.cases"), vectors("e2.answers"));
+    let (cases, answers) = (vectors("e4.cases"), vectors("e4.answers"));
     let mut output = Vec::new();
     serve(Emulation, cases.as_bytes(), &mut output).unwrap();
     let output = String::from_utf8(output).unwrap();
@@ -23,7 +23,7 @@ fn stored_answers() {
 
 #[test]
 fn requests_print_as_they_are_read() {
-    for line in vectors("e2.cases").lines() {
+    for line in vectors("e4.cases").lines() {
         let request = Request::parse(line).unwrap();
         assert_eq!(Request::parse(&request.to_string()), Ok(request));
     }

@@ -116,8 +116,8 @@ pub fn press_autoload(
     loaded.hand_back(control, devices)
 }
 
-/// Loads a tape into the store and its control record into `control`. The
-/// record given is not tested.
+/// Loads a tape, whose blocks do not overlap, into the store and its control
+/// record into `control`. The record given is not tested.
 pub fn load(store: &mut [u32], control: &mut Control, tape: &[u8]) -> Result<(), Refusal> {
     // SAFETY: as in `run`; the tape is only read.
     let state = unsafe {

@@ -172,6 +172,8 @@ pub enum Refusal {
     WrittenLength = 15,
     /// 16: a buffer shorter than the tape.
     BufferLength = 16,
+    /// 17: a block names a cell that an earlier block of the tape names.
+    BlockOverlap = 17,
 }
 
 impl Refusal {
@@ -205,6 +207,7 @@ impl Refusal {
             Refusal::RemarkLength => "a remark over 255 bytes",
             Refusal::WrittenLength => "a machine whose tape would pass 65,536 bytes",
             Refusal::BufferLength => "a buffer shorter than the tape",
+            Refusal::BlockOverlap => "a block names a cell that an earlier block of the tape names",
         }
     }
 
@@ -227,6 +230,7 @@ impl Refusal {
             14 => Refusal::RemarkLength,
             15 => Refusal::WrittenLength,
             16 => Refusal::BufferLength,
+            17 => Refusal::BlockOverlap,
             _ => return None,
         })
     }

@@ -109,6 +109,40 @@ fn refusals() {
     );
 }
 
+/// A block of so many cells of 1.
+fn block(first: u32, cells: u32) -> Vec<u8> {
+    let mut block = (4 + 4 * cells).to_le_bytes().to_vec();
+    block.extend([1, 0]);
+    block.extend(first.to_le_bytes());
+    block.extend([1, 0, 0, 0].repeat(cells as usize));
+    block
+}
+
+#[test]
+fn overlapping_blocks_are_refused() {
+    let overlapping = [block(2, 3), block(6, 1), block(0, 3), tape()].concat();
+    let given = Control {
+        ic: 6,
+        ..Control::fresh()
+    };
+    let (mut store, mut control) = (vec![7; 8], given);
+    let refused = load(&mut store, &mut control, &overlapping);
+    assert_eq!(refused, Err(Refusal::BlockOverlap));
+    assert_eq!((store, control), (vec![7; 8], given));
+    assert_eq!(remark(&overlapping, 8), Err(Refusal::BlockOverlap));
+    let beyond = [block(2, 3), block(4, 5), tape()].concat();
+    assert_eq!(remark(&beyond, 8), Err(Refusal::BlockPlace));
+}
+
+#[test]
+fn touching_blocks_are_loaded() {
+    let touching = [block(2, 3), block(5, 3), block(0, 2), tape()].concat();
+    let mut store = vec![7; 8];
+    load(&mut store, &mut Control::fresh(), &touching).unwrap();
+    assert_eq!(store, vec![1; 8]);
+    assert!(remark(&touching, 8).unwrap().is_some());
+}
+
 /// An instruction by its code and address.
 const fn instruction(code: u32, address: u32) -> u32 {
     code << 18 | address

@@ -180,5 +180,4 @@ fn numbers_of_the_writers_refusals() {
     for refusal in refusals {
         assert_eq!(Refusal::from_number(refusal.number()), Some(refusal));
     }
-    assert_eq!(Refusal::from_number(17), None);
 }

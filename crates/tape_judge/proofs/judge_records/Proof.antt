@@ -1,24 +1,24 @@
-use Prim.Native.Nat.{_+_, _-_, _≤_}
-use mathlib.Core.Path.{_≡_, refl, _∙_}
-use mathlib.Core.Bool.{false}
+use Prim.Native.Nat.{_+_, _-_, _≤_, _<_}
+use mathlib.Core.Path.{refl}
 use native.Mathlib.Omega.{arith}
 use denote.Ref.{now}
-use lib.ListN.{length, drop}
-use Rattle.definition_tape.specs.Layout.{recordsOf}
-use Rattle.definition_tape.specs.Judge.{judgeRecords}
-use Rattle.tape_judge.proofs.Steps.{judge-done, judge-advance, advance-inside}
+use lib.ListN.{length}
+use Rattle.tape_judge.proofs.Steps.{Judging, judging-start, judge-done, judge-on}
 use borrow.Author.Needs.{needs}
 use Rattle.tape_judge.proofs.judge_records.Statement.{statement}
 use Rattle.tape_judge.proofs.judge_records.Tie as tie
 
 abbrev Inv-loop : tie.InvT-loop
-Inv-loop tape cells at₀ after₀ at after = (at ≤ length tape) × (judgeRecords cells after (recordsOf (drop at tape)) ≡ judgeRecords cells false (recordsOf tape))
+Inv-loop tape cells first at₀ n₀ after₀ at n after = Judging cells tape first at n after
 
 abbrev μ-loop : tie.MeasureT-loop
-μ-loop tape cells at₀ after₀ at after = length tape - at
+μ-loop tape cells first at₀ n₀ after₀ at n after = length tape - at
+
+first-again-requires : tie.Need-first-again-requires Inv-loop μ-loop
+first-again-requires c κs = search needs
 
 loop-holds : tie.Need-loop-holds Inv-loop μ-loop
-loop-holds c = (omega arith, refl)
+loop-holds c = judging-start _ _ _
 
 sub-judge-step : tie.Need-sub-judge-step Inv-loop μ-loop
 sub-judge-step c = search needs
@@ -37,27 +37,32 @@ enum-known-s c = search needs
 
 returns : tie.Need-returns Inv-loop μ-loop
 returns c = let b4 = c .before .before .before .before in
-    judge-done _ _ (now (b4 .before .before .before .args .tape)) (b4 .before .loop .at) _ (c .before .before .before .judge-step .ensures) _ (c .before .s .given .1) ∙ b4 .before .loop .inv .1
+    judge-done _ (now (b4 .before .before .before .before .args .tape)) _ (b4 .before .loop .at) (b4 .before .loop .n) _ (b4 .before .before .first-again .ensures .1) (b4 .before .loop .inv) _ _ refl
+    (c .before .before .before .judge-step .ensures) _ (c .before .s .given .1)
 
 enum-known-s-2 : tie.Need-enum-known-s-2 Inv-loop μ-loop
 enum-known-s-2 c = search needs
 
-inside : (c : tie.After-known-told2 Inv-loop μ-loop) → (6 ≤ c .before .s2 .given .0 .0) × (c .before .before .before .before .before .loop .at + c .before .s2 .given .0 .0 ≤ length (now (c .before .before .before .before .before .before .before .args .tape)))
-inside c = let b4 = c .before .before .before .before in
-    advance-inside _ _ (now (b4 .before .before .before .args .tape)) (b4 .before .loop .at) _ (c .before .before .before .judge-step .ensures) _ _ (c .before .s2 .given .1) (b4 .before .loop .inv .0)
+on : (c : tie.After-known-told2 Inv-loop μ-loop) → let b4 = c .before .before .before .before in
+    let k = c .before .s2 .given .0 .0 in
+    let tape = now (b4 .before .before .before .before .args .tape) in
+    (6 ≤ k) × (b4 .before .loop .at + k ≤ length tape) × (b4 .before .loop .n < b4 .before .before .first-again .result)
+    × Judging (b4 .before .before .before .before .args .cells) tape (b4 .before .before .first-again .result) (b4 .before .loop .at + k) (b4 .before .loop .n + 1) (c .before .s2 .given .0 .1 .0)
+on c = let b4 = c .before .before .before .before in
+    judge-on _ (now (b4 .before .before .before .before .args .tape)) _ (b4 .before .loop .at) (b4 .before .loop .n) _ (b4 .before .before .first-again .ensures .1) (b4 .before .loop .inv) _ _ refl
+    (c .before .before .before .judge-step .ensures) _ _ (c .before .s2 .given .1)
 
 add-at : tie.Need-add-at Inv-loop μ-loop
-add-at c = omega (arith, inside c)
+add-at c = omega (arith, on c)
+
+add-n : tie.Need-add-n Inv-loop μ-loop
+add-n c = omega (arith, on c, c .before .before .before .before .before .before .first-again .ensures .0)
 
 loop-less : tie.Need-loop-less Inv-loop μ-loop
-loop-less c = omega (arith, inside c)
+loop-less c = omega (arith, on c)
 
 loop-again : tie.Need-loop-again Inv-loop μ-loop
-loop-again c = (
-  inside c .1,
-  let b4 = c .before .before .before .before in
-      judge-advance _ _ (now (b4 .before .before .before .args .tape)) (b4 .before .loop .at) _ (c .before .before .before .judge-step .ensures) _ _ (c .before .s2 .given .1) ∙ b4 .before .loop .inv .1,
-)
+loop-again c = on c .3
 
 pub judge-records-spec : {M : Type 1} → statement M
 judge-records-spec =
@@ -65,6 +70,7 @@ judge-records-spec =
     (tie.spec
     Inv-loop
     μ-loop
+    first-again-requires
     loop-holds
     sub-judge-step
     part-judge-step-start
@@ -74,5 +80,6 @@ judge-records-spec =
     returns
     enum-known-s-2
     add-at
+    add-n
     loop-less
     loop-again)
