@@ -27,8 +27,9 @@ dropped.
 A number may be a word with bit I from the left, written bitI: IR=bit5; or the code of a character, written 'C. A label
 is letters, figures and _, with no figure first; it is not bitI, nor W, M or X with 0 to 3.
 
-What does not fit is refused, and so is a tape over 65,536 bytes; no tape is written then. The order of the records is
-the listing's. Status: 0 done, 1 a tape is not what its listing makes (--check), 2 no tape can be made or read.
+What does not fit is refused, and so are a cell that an earlier block has and a tape over 65,536 bytes; no tape is
+written then. The order of the records is the listing's. Status: 0 done, 1 a tape is not what its listing makes (--check),
+2 no tape can be made or read.
 """
 import contextlib
 import math
@@ -277,8 +278,18 @@ def made(listing, file):
     return Maker(file, lines, Maker(file, lines).found)
 
 
+def see_that_no_cell_is_named_twice(maker):
+    named = {}
+    for place, address, _ in maker.cells:
+        with maker.at(place):
+            if address in named:
+                raise Error(f"the cell of address {address} stands in line {named[address]} too")
+        named[address] = place
+
+
 def make(listing, file):
     maker = made(listing, file)
+    see_that_no_cell_is_named_twice(maker)
     tape = b""
     for place, part in maker.records:
         tape += part

@@ -226,11 +226,13 @@ rc4000_autoloaded rc4000_press_autoload(uint32_t *store, size_t cells, rc4000_co
                                         size_t count);
 
 /* Loads a tape of at most 65536 bytes, whose blocks do not overlap. The control
- * record that comes back is the tape's; the one given is not tested. */
+ * record that comes back is the tape's; the one given is not tested. Takes up to
+ * 540 KB of stack. */
 rc4000_state rc4000_load(uint32_t *store, size_t cells, rc4000_control control,
                          const uint8_t *tape, size_t length);
 
-/* The first remark of a tape that loads into a store of this many cells. */
+/* The first remark of a tape that loads into a store of this many cells; else the
+ * refusal is the load's. Takes up to 540 KB of stack. */
 rc4000_text rc4000_remark(const uint8_t *tape, size_t length, size_t cells);
 
 /* Writes the tape of a machine into a buffer of `space` bytes, whose bytes

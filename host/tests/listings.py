@@ -51,6 +51,8 @@ REFUSED = [
     ("a block begins at an even address", 1, "block 15\n word 0"),
     ("an address is 0 to 16777214, not -2", 1, "block -2\n word 0"),
     ("an address is 0 to 16777214, not 16777216", 3, "block 16777214\n word 0\n word 0"),
+    ("the cell of address 16 stands in line 2 too", 4, "block 16\n word 0\nblock 16\n word 0"),
+    ("the cell of address 16 stands in line 2 too", 5, "block 16\n word 0\n word 0\nblock 14\n float 1\n word 0"),
     ("a block with no cells", 1, "block 16\ncontrol monitor\nend"),
     ("a block with no cells", 2, "; none\nblock 16"),
     ("a cell outside a block", 1, "word 0"),
@@ -118,6 +120,8 @@ MADE = [
     ("block 16\n" + 16380 * "word 0\n" + "end", block(16, *16380 * [0]) + record(3, b"")),
     ("control IC=16777215 IR=bit0 PR=255 EX=7 monitor reset",
      record(2, bytes([255, 255, 255, 0, 0, 0, 128, 0, 0, 0, 0, 0, 0, 0, 0, 0, 255, 7, 5, 0]))),
+    ("block 16\n word 1\nblock 18\n word 2\nblock 14\n word 3",
+     b"".join(record(1, bytes([cell, 0, 0, 0, word, 0, 0, 0])) for cell, word in ((8, 1), (9, 2), (7, 3)))),
     ("control monitor\r\nend\r\nraw 0a 0B", record(2, bytes(16) + bytes([128, 0, 1, 0])) + record(3, b"") + b"\n\v"),
 ]
 

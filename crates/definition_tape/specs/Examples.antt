@@ -110,7 +110,7 @@ pub overlap-order : (badCell 8 ≡ 9) × (badCell 7 ≡ 17) × (badCell 1 ≡ 17
 unfolding opened
 overlap-order = (refl, refl, refl, refl, refl)
 
--- blocks of two cells that touch name no cell twice; the first and the last of three name the cell 3
+-- blocks of two cells that touch name no cell twice; the first and the last of three name the cell 3, or the cell 2
 abbrev pub pairAt : ℕ → Block
 pairAt i = record { first = i; cells = 1 ∷ 2 ∷ [] }
 
@@ -125,9 +125,12 @@ touching = (at, (by, (λ i n m. m, tt)))
     by : (i : ℕ) → Names (pairAt 4) i → Names (pairAt 0) i ⊎ ⊥ → ⊥
     by i n (inl m) = omega (arith, n .from, m .below)
 
-pub overlapping : NamedOnce (pairAt 2 ∷ pairAt 6 ∷ pairAt 3 ∷ []) → ⊥
+pub overlapping : (NamedOnce (pairAt 2 ∷ pairAt 6 ∷ pairAt 3 ∷ []) → ⊥) × (NamedOnce (pairAt 2 ∷ pairAt 6 ∷ pairAt 1 ∷ []) → ⊥)
 unfolding NamedOnce Named
-overlapping o = o .0 3 (record { from = omega arith; below = omega arith }) (inr (inl (record { from = omega arith; below = omega arith })))
+overlapping = (
+  λ o. o .0 3 (record { from = omega arith; below = omega arith }) (inr (inl (record { from = omega arith; below = omega arith }))),
+  λ o. o .0 2 (record { from = omega arith; below = omega arith }) (inr (inl (record { from = omega arith; below = omega arith }))),
+)
 
 -- flags over 7 and a last byte other than zero are 3
 pub flags-8 : verdictNumber (judgeTape 8 (controlTape 8 0)) ≡ 3

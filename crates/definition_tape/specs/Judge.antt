@@ -1,4 +1,4 @@
--- The refusal of a tape (document 01, "Who can be refused, for what": whoever punched the tape), for a store of n cells.
+-- The refusal of a tape (document 01, "Who can be refused, for what": whoever punched the tape; document 02, E4), for a store of n cells.
 -- Assumes nothing.
 use Prim.Native.Nat.{ℕ, zero, suc, _+_, _%_}
 use mathlib.Core.Bool.{Bool, true, false, not, cond}

@@ -25,7 +25,7 @@ storedBlock s i cs = take i s ++ pasted (drop i s) cs
 unfoldable pub loadRecord : List ℕ → List ℕ → List ℕ
 loadRecord s t = cond (eqb (kindOf t) 1) (storedBlock s (firstCell (payloadOf t)) (blockCells (payloadOf t))) s
 
--- record by record; cells that no block names keep what they held, and none is named twice
+-- record by record; cells that no block names keep what they held. An accepted tape names none twice
 unfoldable pub loadRecords : List ℕ → List (List ℕ) → List ℕ
 loadRecords s [] = s
 loadRecords s (t ∷ ts) = loadRecords (loadRecord s t) ts

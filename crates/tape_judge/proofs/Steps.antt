@@ -22,7 +22,7 @@ use Rattle.definition_tape.proofs.Judged.{Good, good, block-payload, no-records
 use Rattle.tape_overlap.specs.Again.{isWhole, Stop, FirstAgain}
 use Rattle.tape_overlap.specs.Again.Stop.{after as behind, broken, again}
 use Rattle.tape_overlap.proofs.Names.{times-less}
-use Rattle.tape_overlap.proofs.Passes.{below, is, left, times}
+use Rattle.tape_overlap.proofs.Passes.{below, is, left, times, Passed, row}
 use Rattle.tape_judge.specs.declared.Step.{Step}
 use Rattle.tape_judge.specs.declared.Step.the-variants.{Done, Advance}
 use Rattle.tape_judge.specs.Steps.{stepAfter, stepBy, stepOf}
@@ -136,21 +136,21 @@ module _ (n : ℕ) (after a b : Bool) (t : List ℕ) (h : 6 + lengthOf t ≤ len
 -- at the place `at` of the tape, after n good records; `first` is the number of the one that names a cell again
 pub record Judging (cells : ℕ) (tape : List ℕ) (first at n : ℕ) (after : Bool) : Type 0 where
   pub inside : at ≤ length tape
-  pub records : recordsOf (drop at tape) ≡ drop n (recordsOf tape)
+  pub passed : Passed tape at n
   pub below : n ≤ first
   pub earlier : List (List ℕ)
   pub times : (i : ℕ) → timesNamed earlier i ≡ timesNamed (take n (recordsOf tape)) i
   pub same : judgeRecords cells after earlier (recordsOf (drop at tape)) ≡ judgeRecords cells false [] (recordsOf tape)
 
 pub judging-start : (cells : ℕ) (tape : List ℕ) (first : ℕ) → Judging cells tape first 0 0 false
-judging-start cells tape first = record { inside = omega arith; records = refl; below = omega arith; earlier = []; times = λ i. refl; same = refl }
+judging-start cells tape first = record { inside = omega arith; passed = record { rest = refl }; below = omega arith; earlier = []; times = λ i. refl; same = refl }
 
 module _ (cells : ℕ) (tape : List ℕ) (first at n : ℕ) (after : Bool) (f : FirstAgain cells (recordsOf tape) first) (j : Judging cells tape first at n after) where
   abbrev t : List ℕ
   t = drop at tape
 
   next : 6 ≤ length t → drop n (recordsOf tape) ≡ t ∷ recordsOf (restOf t)
-  next h = sym (j .records) ∙ records-more t h
+  next = row tape at n (j .passed)
 
   -- where n is `first` the search stopped at this record, and it names a cell again
   abbrev Again : Type 0
@@ -235,7 +235,7 @@ module _ (cells : ℕ) (tape : List ℕ) (first at n : ℕ) (after : Bool) (f : 
           m,
           record {
             inside = omega arith;
-            records = sym (left (recordsOf tape) n t (recordsOf (restOf t)) (next six) ∙ ap recordsOf (rw (← e) (drop-drop k at tape)));
+            passed = record { rest = sym (left (recordsOf tape) n t (recordsOf (restOf t)) (next six) ∙ ap recordsOf (rw (← e) (drop-drop k at tape))) };
             below = omega arith;
             earlier = t ∷ j .earlier;
             times = λ i. omega (arith, j .times i, times (recordsOf tape) n t (recordsOf (restOf t)) (next six) i);

@@ -1,4 +1,4 @@
-// The judge of a load tape (document 01, "Load tape").
+// The judge of a load tape (document 01, "Load tape"; document 02, E4).
 ghost use mathlib.Core.Path.{_≡_};
 ghost use mathlib.Core.Bool.{true, false};
 ghost use mathlib.Core.List.{[]};

@@ -47,7 +47,7 @@ lent tape at = take (length tape - at) (drop at tape)
 pub record Passed (tape : List ℕ) (at n : ℕ) : Type 0 where
   pub rest : recordsOf (drop at tape) ≡ drop n (recordsOf tape)
 
-row : (tape : List ℕ) (at n : ℕ) → Passed tape at n → 6 ≤ length (drop at tape)
+pub row : (tape : List ℕ) (at n : ℕ) → Passed tape at n → 6 ≤ length (drop at tape)
     → drop n (recordsOf tape) ≡ drop at tape ∷ recordsOf (restOf (drop at tape))
 row tape at n p h = sym (p .rest) ∙ records-more (drop at tape) h
 

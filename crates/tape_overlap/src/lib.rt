@@ -14,7 +14,7 @@ use tape_records::record_kind;
 use tape_records::record_length;
 
 // The places of the marks.
-pub const PLACES: usize = 32768;
+const PLACES: usize = 32768;
 
 // The cells that a record names: those from `from` up to, not including, `to`; none where both are equal.
 pub struct Cells {
@@ -144,7 +144,7 @@ fn mark_records(marks: &mut [u8], tape: &[u8], low: usize, most: usize) -> usize
 fn search_part(tape: &[u8], low: usize, most: usize) -> usize
     ensures { λ r. ⌜ SearchedPart low most (recordsOf (now (tape .entry))) r ⌝ }
 {
-    let mut marks = [0u8; 32768];
+    let mut marks = [0u8; PLACES];
     mark_records(&mut marks, tape, low, most)
 }
 

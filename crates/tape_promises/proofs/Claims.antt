@@ -19,9 +19,9 @@ use Rattle.definition_tape.specs.Remark.{judgeReading, remarkSpan, remarkText}
 use Rattle.definition_tape.proofs.Judged.{judged-back, tape-judged, passed-then}
 use Rattle.definition_tape.proofs.Remarks.{remark-part as part}
 use Rattle.tape_promises.specs.Grammar.{TapeFor}
-use Rattle.tape_promises.specs.Claims.{AcceptedTapes, NoCellTwice, LoadsLayout, KeptCells, AnyOrder, KeptSize, KeptAll, LoadedMachines, SameVerdict, FirstRemark, RemarkPart}
+use Rattle.tape_promises.specs.Claims.{AcceptedTapes, NoCellTwice, LoadsLayout, KeptCells, AnyOrder, AcceptedInAnyOrder, KeptSize, KeptAll, LoadedMachines, SameVerdict, FirstRemark, RemarkPart}
 use Rattle.tape_promises.proofs.Grammars.{grammar, judged-of}
-use Rattle.tape_promises.proofs.Once.{judged-once, once-blocks, blocks-once, names-two}
+use Rattle.tape_promises.proofs.Once.{judged-once, once-blocks, blocks-once, once-order, names-two}
 use Rattle.tape_promises.proofs.Contents.{only-kept, same-cell, size-loaded, cells-loaded, cells-fit, control-is, control-payload-good, control-fields, span-is, text-is}
 
 none-named : (i : ℕ) → timesNamed [] i ≤ 1
@@ -81,6 +81,9 @@ any-order t u s c d h k e = at (judgeStore s)
     at : (v : Verdict) → loadedBy (judgeThen v (judgeTape (length s) t)) t s c .cells ≡ loadedBy (judgeThen v (judgeTape (length s) u)) u s d .cells
     at (Rejected q) = refl
     at Accepted = rw (accepted-tapes (length s) t .1 h, accepted-tapes (length s) u .1 k) cells
+
+pub accepted-in-any-order : AcceptedInAnyOrder
+accepted-in-any-order n t u h r l p = accepted-tapes n u .1 (record { size = l; layout = r; once = once-order p (h .once) })
 
 pub kept-size : KeptSize
 unfolding loading

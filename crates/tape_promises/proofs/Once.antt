@@ -17,6 +17,7 @@ use Rattle.definition_tape.proofs.Loads.{length-cells}
 use Rattle.definition_tape.proofs.Judged.{Good, Judged, last, more, block-payload}
 use Rattle.definition_tape.proofs.Named.{names-cell, cell-named, not-block, unnamed-true}
 use Rattle.tape_promises.specs.Grammar.{Records, block-then, remark-then, control-then-end, blocksOf}
+use Rattle.tape_promises.specs.Contents.{Permutation, same, cons, swap, trans}
 use Rattle.tape_promises.proofs.Grammars.{Reads, reads, reads-end, first-record, OnceAfter}
 
 -- ---- the judge lets no cell be named twice
@@ -104,6 +105,16 @@ once-times (b ∷ bs) o i = at (naming b i) refl (once-times bs (o .1) i)
         let z : 0 < times bs i → ⊥ = λ h. o .0 i (naming-names b i e) (times-named bs i h) in
         omega arith
     at false e l = omega arith
+
+times-order : {bs cs : List Block} → Permutation bs cs → (i : ℕ) → times bs i ≡ times cs i
+unfolding times
+times-order (same bs) i = refl
+times-order (cons b p) i = let h = times-order p i in omega arith
+times-order (swap a b bs) i = omega arith
+times-order (trans p q) i = times-order p i ∙ times-order q i
+
+pub once-order : {bs cs : List Block} → Permutation bs cs → NamedOnce bs → NamedOnce cs
+once-order {bs} {cs} p o = times-once cs (λ i. let l = once-times bs o i in omega (arith, times-order p i))
 
 -- ---- the records of a tape
 

@@ -16,7 +16,7 @@ use Rattle.definition_tape.specs.Judge.{judgeTape}
 use Rattle.definition_tape.specs.Load.{Loaded, judgeLoad, loading}
 use Rattle.definition_tape.specs.Remark.{judgeReading, remarkSpan, remarkText}
 use Rattle.tape_promises.specs.Grammar.{Records, blocksOf, TapeFor}
-use Rattle.tape_promises.specs.Contents.{Holds, SameBlocks, controlPayload, ControlFields, firstRemark, spanOf, remarkBytes}
+use Rattle.tape_promises.specs.Contents.{Holds, SameBlocks, Permutation, controlPayload, ControlFields, firstRemark, spanOf, remarkBytes}
 use Rattle.tape_promises.specs.Numbers.{TapeRefused, LoadRefused, ReadingRefused}
 
 -- ---- which tapes are accepted, and what they load
@@ -52,6 +52,11 @@ abbrev pub AnyOrder : Type 0
 AnyOrder =
     (t u s : List ℕ) (c d : Control) (h : TapeFor (length s) t) (k : TapeFor (length s) u) → SameBlocks (blocksOf (h .layout)) (blocksOf (k .layout))
     → loading t s c .cells ≡ loading u s d .cells
+
+-- nor for the judge: a tape of at most 65,536 bytes with the blocks of an accepted one in another order is accepted
+abbrev pub AcceptedInAnyOrder : Type 0
+AcceptedInAnyOrder =
+    (n : ℕ) (t u : List ℕ) (h : TapeFor n t) (r : Records n u) → length u ≤ 65536 → Permutation (blocksOf (h .layout)) (blocksOf r) → judgeTape n u ≡ Accepted
 
 -- the store keeps its number of cells
 abbrev pub KeptSize : Type 0

@@ -34,6 +34,13 @@ pub data Holds (i held : ℕ) (bs : List Block) : ℕ → Type 0 where
 abbrev pub SameBlocks : List Block → List Block → Type 0
 SameBlocks bs cs = (b : Block) → (Among b bs → Among b cs) × (Among b cs → Among b bs)
 
+-- the same blocks, each as often, in another order or the same
+pub data Permutation : List Block → List Block → Type 0 where
+  same : (bs : List Block) → Permutation bs bs
+  cons : (b : Block) {bs cs : List Block} → Permutation bs cs → Permutation (b ∷ bs) (b ∷ cs)
+  swap : (a b : Block) (bs : List Block) → Permutation (a ∷ b ∷ bs) (b ∷ a ∷ bs)
+  trans : {bs cs ds : List Block} → Permutation bs cs → Permutation cs ds → Permutation bs ds
+
 -- ---- kind 2, control
 
 unfoldable pub controlPayload : {n : ℕ} {t : List ℕ} → Records n t → List ℕ

@@ -1,4 +1,4 @@
--- The number of a tape's refusal (document 01, "Who can be refused, for what"), apart from the judge.
+-- The number of a tape's refusal (document 01, "Who can be refused, for what"; document 02, E4), apart from the judge.
 -- Assumes nothing.
 use Prim.Native.Nat.{ℕ, _+_, _%_, _≤_, _<_}
 use mathlib.Core.Path.{_≡_}

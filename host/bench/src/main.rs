@@ -8,9 +8,9 @@
 //! by turns; the pair of slices with the median ratio is shown. SECONDS is the
 //! time for each row, 4 where it is not given.
 //!
-//! `bench MACHINE ROW RUNS`: no table, but so many runs of the program of one
-//! row, 0 to 8, on one machine, `proved` or `emulation`, and the executed
-//! instructions; for a counter of host instructions (`host/count`).
+//! `bench MACHINE ROW RUNS`: no table, but so many runs of one row, counted from
+//! 0, on one machine, `proved` or `emulation`, and the executed instructions; for
+//! a counter of host instructions (`host/count`).
 
 mod machine;
 mod rows;

@@ -91,19 +91,29 @@ const fn writes(name: &'static str, cells: usize) -> Row {
     }
 }
 
-const fn loads(name: &'static str, count: u32, cells: u32, order: Order) -> Row {
-    let blocks = Blocks {
-        count,
-        cells,
-        order,
-    };
+const fn loads(name: &'static str, store: usize, blocks: Blocks) -> Row {
     Row {
         work: Work::Load(blocks),
-        ..calls(name, 16_384)
+        ..calls(name, store)
     }
 }
 
-pub const ROWS: [Row; 17] = [
+/// Of one cell each.
+const fn many(order: Order) -> Blocks {
+    Blocks {
+        count: 4600,
+        cells: 1,
+        order,
+    }
+}
+
+const ONE: Blocks = Blocks {
+    count: 1,
+    cells: 4000,
+    order: Order::Rising,
+};
+
+pub const ROWS: [Row; 18] = [
     program("register loop", tape!("registers")),
     program("byte copy loop", tape!("bytes")),
     program("multiply loop (WM)", tape!("multiply")),
@@ -127,14 +137,18 @@ pub const ROWS: [Row; 17] = [
     calls("budget 1, 8,388,608 cells", 8_388_608),
     writes("write, 1,048,576 cells", 1_048_576),
     writes("write, 8,388,608 cells", 8_388_608),
-    loads("load, one block", 1, 4000, Order::Rising),
+    loads("load, one block", 16_384, ONE),
     loads(
         "load, 4,600 blocks in falling order",
-        4600,
-        1,
-        Order::Falling,
+        16_384,
+        many(Order::Falling),
     ),
-    loads("load, 4,600 blocks in mixed order", 4600, 1, Order::Mixed),
+    loads(
+        "load, 4,600 blocks in mixed order",
+        16_384,
+        many(Order::Mixed),
+    ),
+    loads("the same, 8,388,608 cells", 8_388_608, many(Order::Mixed)),
 ];
 
 impl Blocks {
