@@ -172,7 +172,7 @@ fn search(tape: &[u8], cells: usize) -> usize
     n
 }
 
-// The number of the first record that names a cell again, counted from 0; the tape's length where there is none.
+// The number, counted from 0, of the first record that names a cell again or is not whole; one that no record has where there is neither.
 pub fn first_again(tape: &[u8], cells: usize) -> usize
     ensures bound { λ r. ⌜ r ≤ length (now (tape .entry)) ⌝ }
     ensures first { λ r. ⌜ FirstAgain cells (recordsOf (now (tape .entry))) r ⌝ }
