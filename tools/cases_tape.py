@@ -1,19 +1,22 @@
 #!/usr/bin/env python3
-"""Writes stdin and stdout of the crate cases_tape: load and remark cases, and what has to come of each.
+"""Writes stdin and stdout of the crate cases_tape: load, overlay and remark cases, and what has to come of each.
 
-usage: tools/cases_tape.py CASES ANSWERS
+usage: tools/cases_tape.py CASES ANSWERS [FOLDER]
 
-The stored files come out with host/vectors/e4.cases and host/vectors/e4.answers.
+The stored files come out with host/vectors/e5.cases and host/vectors/e5.answers; FOLDER is crates/cases_tape where it is not given.
 
 The first part is made here: the paper's tape, tapes for every refusal, and for every pair of refusals that stand next to each other in
-the order of document 01 (17 after 9 and before 10, document 02), tapes that earn both at one record; every kind of overlap of two blocks. The
-judge below, written from these documents, answers them. Then come the `load` and `remark` requests of the first file with the answers of the
-second, line by line. Where the judge gives another answer nothing is written, and the exit status is 1.
+the order of document 01 (17 after 9 and before 10, document 02), tapes that earn both at one record; every kind of overlap of two blocks; each
+of these loaded into a store with every cell in use and laid over it. Then what becomes of cells that no block names: each cell alone, and second
+tapes laid over what a load left. The judge below, written from these documents, answers them. Then come the `load`, `overlay` and `remark`
+requests of the first file with the answers of the second, line by line. Where the judge gives another answer nothing is written, and the exit
+status is 1.
 """
 import os, struct, sys
 
 ROOT = os.path.dirname(os.path.dirname(os.path.abspath(__file__)))
 LIMIT = 4096                                    # the program's store
+KINDS = {"load": 1, "remark": 2, "overlay": 3}
 GIVEN = [4294967295, 16777216, 1, 2, 3, 9, 0, 1, 1]
 
 
@@ -72,7 +75,15 @@ def read(tape, n):
             return (11, None, None, None) if at < len(tape) else (0, blocks, ctl, span)
 
 
-def load(n, cells, tape):
+def left(kind, cells, blocks):
+    """The cells after a load or an overlay that is done."""
+    after = {} if kind == "load" else dict(cells)
+    for first, xs in blocks:
+        after.update({first + i: x for i, x in enumerate(xs)})
+    return after
+
+
+def load(kind, n, cells, tape):
     if not 8 <= n <= 8388608:
         return "refused 1"
     if any(x >= 1 << 27 for x in cells.values()):
@@ -80,10 +91,8 @@ def load(n, cells, tape):
     refusal, blocks, ctl, _ = read(tape, n)
     if refusal:
         return f"refused {refusal}"
-    after = dict(cells)
-    for first, xs in blocks:
-        after.update({first + i: x for i, x in enumerate(xs)})
-    changed = [f"{i}={x}" for i, x in sorted(after.items()) if x != cells.get(i, 0)]
+    after = left(kind, cells, blocks)
+    changed = [f"{i}={after.get(i, 0)}" for i in sorted(cells | after) if after.get(i, 0) != cells.get(i, 0)]
     return f"ok {' '.join(map(str, ctl))} {','.join(changed) or '-'}"
 
 
@@ -92,6 +101,10 @@ def remark(n, tape):
         return "refused 1"
     refusal, _, _, span = read(tape, n)
     return f"refused {refusal}" if refusal else f"at {span[0]} {span[1]}" if span else "none"
+
+
+def judged(kind, n, cells, tape):
+    return remark(n, tape) if kind == "remark" else load(kind, n, cells, tape)
 
 
 # ---- the cases made here
@@ -150,35 +163,79 @@ def made():
     overlaps = [block(3, 1, 2) + block(a, *range(k)) + PAPER for a, k in blocks]
     overlaps += [block(3, 1, 2) + block(7, 1) + block(a, *range(k)) + PAPER for a, k in blocks if a + k < 8]
     overlaps += [block(7, 1) + block(3, 1, 2) + block(a, *range(k)) + PAPER for a, k in blocks if a + k < 8]
-    cells = {i: 16777216 * (i % 8) + i for i in range(4, 8)}
     for t in overlaps:
-        yield "load", 8, cells, t, load(8, cells, t)
-        yield "remark", 8, {}, t, remark(8, t)
+        yield from every_call(8, full(8), t)
     for t in good + single + pairs:
-        yield "load", 8, cells, t, load(8, cells, t)
-        if len(t) < 1000 or t in good:
-            yield "remark", 8, {}, t, remark(8, t)
+        yield from every_call(8, full(8), t) if len(t) < 1000 or t in good else calls(8, full(8), t)
     for t in good[:8] + [b"", END, block(8, 1)]:
-        for n, given in ((7, cells), (0, {}), (8, {0: BIG}), (7, {0: BIG}), (12, {11: 4294967295}), (4096, {4095: BIG - 1})):
-            given = {i: x for i, x in given.items() if i < n}
-            yield "load", n, given, t, load(n, given, t)
+        for n, given in ((7, full(8)), (0, {}), (8, {0: BIG}), (7, {0: BIG}), (12, {11: 4294967295}), (4096, {4095: BIG - 1})):
+            yield from calls(n, {i: x for i, x in given.items() if i < n}, t)
         for n in (0, 7, 8388608, 8388609, 4294967295):
-            yield "remark", n, {}, t, remark(n, t)
+            yield "remark", n, {}, t
+    yield from unnamed()
+    yield from laid_over()
+
+
+def full(n):
+    """Word and key in every cell."""
+    return {i: (i % 7 + 1 << 24) + 16777215 - i for i in range(n)}
+
+
+def calls(n, cells, t):
+    yield "load", n, cells, t
+    yield "overlay", n, cells, t
+
+
+def every_call(n, cells, t):
+    yield from calls(n, cells, t)
+    yield "remark", n, {}, t
+
+
+def unnamed():
+    """Cells that no block names: all, all but one, one alone, those between blocks; also of a store of zero and of one with a cell too large."""
+    for n in (8, 9, 24):
+        tapes = [PAPER, block(0, *range(1, n + 1)) + PAPER, b"".join(block(i, i) for i in range(0, n, 2)) + PAPER]
+        tapes += [block(i, *value) + PAPER for i in range(n) for value in ((0,), (5 << 24,))]
+        tapes += [b"".join(block(k, 7) for k in range(n) if k != i) + PAPER for i in range(n)]
+        for t in tapes:
+            yield from calls(n, full(n), t)
+        for i in range(n):
+            for value in (1, 1 << 24, BIG - 1, BIG):
+                yield from calls(n, {i: value}, PAPER)
+        for t in tapes[:6]:
+            yield from calls(n, {}, t)
+            yield from calls(n, full(n) | {n - 1: BIG}, t)
+    for t in (PAPER, block(0, 1) + block(63, 2) + PAPER, block(32, 1, 0, 3) + PAPER):
+        yield from calls(64, full(64), t)
+    yield from calls(LIMIT, full(LIMIT), block(9, 1) + block(LIMIT - 2, 2) + PAPER)
+
+
+def laid_over():
+    """A ground tape loaded into a store with every cell in use; border tapes laid over what it leaves, good ones and refused ones; and the ground
+    tape again."""
+    for n, ground in ((8, block(2, 1, 2, 3, 4)), (9, block(0, 7, 8) + block(5, 1 << 24, 0, 9)), (24, block(20, 1, 2, 3) + block(4, 9, 8, 7, 6))):
+        ground += ctl(6, 5, 4, 3, pr=170, ex=2, flags=1) + END
+        yield "load", n, full(n), ground
+        after = left("load", {}, read(ground, n)[1])
+        for border in (PAPER, block(0, 11) + PAPER, block(n - 1, 12) + block(2, 0, 13) + PAPER, block(0, *[0] * n) + PAPER, b"",
+                       block(5, 14) + PAPER + b"\0", block(5, 14) + block(5, 14) + PAPER, block(n, 1) + PAPER, block(0, BIG) + PAPER):
+            yield from calls(n, after, border)
+        yield from calls(n, left("overlay", after, read(block(1, 15, 16) + PAPER, n)[1]), ground)
 
 
 def given(requests, answers):
     for q, a in zip(open(requests), open(answers)):
         f = q.split()
-        if f and f[0] == "load" and int(f[1]) <= LIMIT:
+        if f and f[0] in ("load", "overlay") and int(f[1]) <= LIMIT:
             cells = {} if f[2] == "-" else dict(map(int, c.split("=")) for c in f[2].split(","))
-            yield "load", int(f[1]), cells, bytes.fromhex(f[3].strip("-")), a.strip()
+            yield (f[0], int(f[1]), cells, bytes.fromhex(f[3].strip("-"))), a.strip()
         elif f and f[0] == "remark":
-            yield "remark", int(f[1]), {}, bytes.fromhex(f[2].strip("-")), a.strip()
+            yield ("remark", int(f[1]), {}, bytes.fromhex(f[2].strip("-"))), a.strip()
 
 
 def expected(kind, tape, answer):
     f = answer.split()
-    if kind == "load":
+    if kind != "remark":
         return answer if f[0] == "ok" else f"refused {f[1]} {' '.join(map(str, GIVEN))} -"
     refusal = int(f[1]) if f[0] == "refused" else 0
     a, e = (int(f[1]), int(f[2])) if f[0] == "at" else (0, 0)
@@ -190,17 +247,19 @@ def expected(kind, tape, answer):
 
 
 def main():
-    cases = list(made()) + list(given(*sys.argv[1:3]))
+    if len(sys.argv) not in (3, 4):
+        sys.exit("usage: tools/cases_tape.py CASES ANSWERS [FOLDER]")
+    requests, answers, folder = (sys.argv[1:] + [f"{ROOT}/crates/cases_tape"])[:3]
+    cases = [(case, judged(*case)) for case in made()] + list(given(requests, answers))
     data, lines = struct.pack("<I", len(cases)), []
-    for kind, n, cells, tape, answer in cases:
-        mine = load(n, cells, tape) if kind == "load" else remark(n, tape)
+    for (kind, n, cells, tape), answer in cases:
+        mine = judged(kind, n, cells, tape)
         if mine != answer:
             sys.exit(f"the two judges differ: {kind} {n} {cells} {tape.hex()[:200]}: {mine}, {answer}")
         some = {i: x for i, x in cells.items() if x}
-        data += struct.pack("<IIII", 1 if kind == "load" else 2, n, len(some), len(tape))
+        data += struct.pack("<IIII", KINDS[kind], n, len(some), len(tape))
         data += b"".join(struct.pack("<II", i, x) for i, x in some.items()) + tape
         lines.append(expected(kind, tape, answer))
-    folder = f"{ROOT}/crates/cases_tape"
     open(f"{folder}/stdin", "wb").write(data)
     open(f"{folder}/stdout", "w").write("".join(l + "\n" for l in lines))
     print(len(cases), "cases,", len(data), "bytes;", sorted({l.split()[1] for l in lines if l.startswith("refused")}, key=int))

@@ -110,16 +110,20 @@ static void taken(int flag, unsigned byte) {
     expect_for(reset.refusal == 0 && reset.control.reset == 1, "reset key", flag, byte);
 }
 
-/* The loader does not test the record that it is given. */
+/* Load and overlay do not test the record that they are given. */
 static void loaded(int flag, unsigned byte) {
+    rc4000_state (*const calls[])(uint32_t *, size_t, rc4000_control, const uint8_t *, size_t) = {
+        rc4000_load, rc4000_overlay};
     const rc4000_control given = with_flag(flag, byte);
     uint32_t store[CELLS] = {0};
-    const rc4000_state empty = rc4000_load(store, CELLS, given, tape, 0);
-    expect_for(empty.refusal == RC4000_TAPE_ENDS, "empty tape", flag, byte);
-    expect_for(same(empty.control, given), "record of the empty tape", flag, byte);
-    const rc4000_state full = rc4000_load(store, CELLS, given, tape, sizeof tape);
-    expect_for(full.refusal == 0, "tape", flag, byte);
-    expect_for(same(full.control, tapes_record), "record of the tape", flag, byte);
+    for (int i = 0; i < 2; i++) {
+        const rc4000_state empty = calls[i](store, CELLS, given, tape, 0);
+        expect_for(empty.refusal == RC4000_TAPE_ENDS, "empty tape", flag, byte);
+        expect_for(same(empty.control, given), "record of the empty tape", flag, byte);
+        const rc4000_state full = calls[i](store, CELLS, given, tape, sizeof tape);
+        expect_for(full.refusal == 0, "tape", flag, byte);
+        expect_for(same(full.control, tapes_record), "record of the tape", flag, byte);
+    }
 }
 
 int main(void) {

@@ -25,11 +25,13 @@ static rc4000_written write_tape(const uint32_t *store, size_t cells, rc4000_con
     return rc4000_write(store, cells, control, given, text, remark, tape, space);
 }
 
-/* The machine of these 16 cells comes back from its tape of so many bytes, and
- * so does its remark; the buffer may be just as long. */
+/* The machine of these 16 cells comes back from its tape of so many bytes,
+ * whatever the store held, and so does its remark; the buffer may be just as
+ * long. */
 static void comes_back(const uint32_t *cells, uint8_t given, size_t remark, size_t length) {
-    uint32_t store[CELLS], other[CELLS] = {0};
+    uint32_t store[CELLS], other[CELLS];
     memcpy(store, cells, sizeof store);
+    for (uint32_t i = 0; i < CELLS; i++) other[i] = rc4000_cell(7 - i % 7, 99);
     const rc4000_written written = write_tape(store, CELLS, running, given, remark, length);
     expect(written.refusal == 0 && written.length == length, "length of the tape");
     expect(kept(length), "bytes behind the tape");

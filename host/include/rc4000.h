@@ -7,8 +7,9 @@
  * A machine begins with a store of zeros and rc4000_fresh(), its control record
  * after power on. That is the reset state, in which a run makes no cycle: the
  * start key (rc4000_press_start) or the autoload key (rc4000_press_autoload)
- * leaves it, and so does a tape (rc4000_load) whose control record is outside
- * it. A record of zeros is none: it is refused with 3, as PR is under 128.
+ * leaves it, and so does a tape (rc4000_load, rc4000_overlay) whose control
+ * record is outside it. A record of zeros is none: it is refused with 3, as PR
+ * is under 128.
  *
  * A run also lends the low-speed channel its two devices: the tape reader,
  * device 0, as a row of characters that are only read (6 bits each, 0 to 63),
@@ -225,11 +226,19 @@ rc4000_autoloaded rc4000_press_autoload(uint32_t *store, size_t cells, rc4000_co
                                         rc4000_devices devices, const uint8_t *characters,
                                         size_t count);
 
-/* Loads a tape of at most 65536 bytes, whose blocks do not overlap. The control
- * record that comes back is the tape's; the one given is not tested. Takes up to
- * 540 KB of stack. */
+/* Loads a tape of at most 65536 bytes, whose blocks do not overlap. Every cell
+ * that no block names becomes 0, word and key, cells 0 to 7 included. Use it to
+ * change carpets: nothing of the old one stays. The control record that comes
+ * back is the tape's; the one given is not tested. A tape that is refused clears
+ * nothing. Takes up to 540 KB of stack. */
 rc4000_state rc4000_load(uint32_t *store, size_t cells, rc4000_control control,
                          const uint8_t *tape, size_t length);
+
+/* Lays a tape over what the store holds: as rc4000_load, with the same refusals
+ * and the tape's control record, but every cell that no block names is kept. Use
+ * it to lay a border tape over a ground tape that rc4000_load brought. */
+rc4000_state rc4000_overlay(uint32_t *store, size_t cells, rc4000_control control,
+                            const uint8_t *tape, size_t length);
 
 /* The first remark of a tape that loads into a store of this many cells; else the
  * refusal is the load's. Takes up to 540 KB of stack. */
@@ -238,7 +247,7 @@ rc4000_text rc4000_remark(const uint8_t *tape, size_t length, size_t cells);
 /* Writes the tape of a machine into a buffer of `space` bytes, whose bytes
  * behind the tape are kept. `given` 0: no remark; else the remark is `text`, at
  * most 255 bytes, also where it is empty. Store and record are only read.
- * rc4000_load into as many cells of zero gives the same store and record, and
+ * rc4000_load into as many cells gives the same store and record, and
  * rc4000_remark the same remark; the device buffer registers are not on a tape. */
 rc4000_written rc4000_write(const uint32_t *store, size_t cells, rc4000_control control,
                             uint8_t given, const uint8_t *text, size_t text_length, uint8_t *tape,

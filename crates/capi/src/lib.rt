@@ -1,7 +1,7 @@
-// The C calls (host/include/rc4000.h): the public calls, with the records of `capi_records` in and out. The control record's flag bytes are tested first, save by a load.
+// The C calls (host/include/rc4000.h): the public calls, with the records of `capi_records` in and out. The control record's flag bytes are tested first, save by a load and an overlay.
 ghost use mathlib.Core.Path.{_≡_};
 ghost use Rattle.definition_tape.specs.Remark.{remarkSpan};
-ghost use Rattle.capi_records.specs.Results.{returned, runReturned, runCall, resetCall, startCall, autoloadCall, loadCall, textOf, writeReturned, writeCall};
+ghost use Rattle.capi_records.specs.Results.{returned, runReturned, runCall, resetCall, startCall, autoloadCall, loadCall, overlayCall, textOf, writeReturned, writeCall};
 use capi_records::AutoloadResult;
 use capi_records::CallResult;
 use capi_records::ControlRecord;
@@ -90,6 +90,19 @@ pub extern "C" fn rc4000_load(store: &mut [u32], control: ControlRecord, tape: &
 {
     let c = control.control();
     let x = rc4000::load(store, c, tape);
+    capi_records::state_result(x, control)
+}
+
+#[no_mangle]
+pub extern "C" fn rc4000_overlay(
+    store: &mut [u32],
+    control: ControlRecord,
+    tape: &[u8],
+) -> StateResult
+    ensures { λ r. ⌜ returned r (now (store .exit)) ≡ overlayCall (now (tape .entry)) (now (store .entry)) control ⌝ }
+{
+    let c = control.control();
+    let x = rc4000::overlay(store, c, tape);
     capi_records::state_result(x, control)
 }
 

@@ -28,14 +28,14 @@ use Rattle.definition_runs.specs.Lent.{machineLent, handedBack, runLent, KeyRet
 use Rattle.definition_runs.specs.GenericRun.{refusedNumber}
 use Rattle.run_promises.proofs.Promises.{refused-run, refused-only, refusal-numbers}
 use Rattle.cycle_promises.proofs.Claims as keys
-use Rattle.definition_tape.specs.Load.{judgeThen, judgeLoad, loadedBy, loading}
+use Rattle.definition_tape.specs.Load.{judgeThen, judgeLoad, loadedBy, cleared, loading, overlaying}
 use Rattle.definition_tape.specs.Bytes.{tapeOf}
 use Rattle.definition_tape.specs.Writing.{remarkOf, remarkFits, judgeSize, judgeParts, judgeWriting, Writing, writingBy, writing}
 use Rattle.tape_promises.proofs.Numbers.{positive}
 use Rattle.writer_promises.specs.Claims.{tapeSize}
 use Rattle.writer_promises.proofs.Claims.{written-tape-length}
 use Rattle.capi_records.specs.declared.ControlRecord.{ControlRecord}
-use Rattle.capi_records.specs.Results.{flagsFit, controlIn, judgeFlags, runReturned, resultBy, autoloadedBy, runBy, keyBy, autoloadBy, loadBy, writeResultBy, writeBy, runCall, resetCall, startCall, autoloadCall, loadCall, writeCall}
+use Rattle.capi_records.specs.Results.{flagsFit, controlIn, judgeFlags, runReturned, resultBy, autoloadedBy, runBy, keyBy, autoloadBy, loadBy, writeResultBy, writeBy, runCall, resetCall, startCall, autoloadCall, loadCall, overlayCall, writeCall}
 use Rattle.capi_promises.specs.Claims.{numberOf, fitsLent, RunNumbers, AutoloadCallNumbers, WriteNumbers, WriteAccepted, RunAsGiven, StateAsGiven, AutoloadAsGiven, WriteAsGiven, RefusedAsGiven}
 
 -- ---- the numbers of a run
@@ -185,9 +185,9 @@ autoload-by (Rejected q) w s r d cs n = λ _. (refl, refl, refl, refl)
 autoload-by Accepted (Rejected q) s r d cs n = λ _. (refl, refl, refl, refl)
 autoload-by Accepted Accepted s r d cs n = λ z. absurd (z refl)
 
-load-by : (v : Verdict) (tape s : List ℕ) (r : ControlRecord) (c : Control) → StateAsGiven s r (loadBy r (loadedBy v tape s c))
-load-by (Rejected q) tape s r c = λ _. (refl, refl)
-load-by Accepted tape s r c = λ z. absurd (z refl)
+load-by : (v : Verdict) (tape u s : List ℕ) (r : ControlRecord) (c : Control) → StateAsGiven s r (loadBy r (loadedBy v tape u s c))
+load-by (Rejected q) tape u s r c = λ _. (refl, refl)
+load-by Accepted tape u s r c = λ z. absurd (z refl)
 
 write-by : (v w : Verdict) (t o : List ℕ) → WriteAsGiven o (writeBy v o (writingBy w t o))
 write-by (Rejected q) w t o = λ _. (refl, refl)
@@ -195,12 +195,13 @@ write-by Accepted (Rejected q) t o = λ _. (refl, refl)
 write-by Accepted Accepted t o = λ z. absurd (z refl)
 
 pub refused-as-given : RefusedAsGiven
-unfolding runCall resetCall startCall autoloadCall loadCall writeCall pressingReset pressingStart pressingAutoload autoloadLent loading writing
+unfolding runCall resetCall startCall autoloadCall loadCall overlayCall writeCall pressingReset pressingStart pressingAutoload autoloadLent loading overlaying writing
 refused-as-given l b g tape s r d cs t m o = (
   run-by (judgeFlags s r) l b s r d cs t,
   key-by (judgeFlags s r) (judgeMachine s (controlIn r)) s r (controlIn r) (resetKey s (controlIn r)),
   key-by (judgeFlags s r) (judgeMachine s (controlIn r)) s r (controlIn r) (startKey s (controlIn r)),
   autoload-by (judgeFlags s r) (judgeAutoloadOf (machineLent s (controlIn r) d cs [])) s r d cs (autoloadKey (machineLent s (controlIn r) d cs [])),
-  load-by (judgeLoad tape s) tape s r (controlIn r),
+  load-by (judgeLoad tape s) tape (cleared (length s)) s r (controlIn r),
+  load-by (judgeLoad tape s) tape s s r (controlIn r),
   write-by (judgeFlags s r) (judgeWriting s (controlIn r) (remarkOf (not (eqb g 0)) m) (length o)) (tapeOf s (controlIn r) (remarkOf (not (eqb g 0)) m)) o,
 )

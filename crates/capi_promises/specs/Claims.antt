@@ -14,7 +14,7 @@ use Rattle.capi_records.specs.declared.ControlRecord.{ControlRecord}
 use Rattle.capi_records.specs.declared.CallResult.{CallResult}
 use Rattle.capi_records.specs.declared.StateResult.{StateResult}
 use Rattle.capi_records.specs.declared.AutoloadResult.{AutoloadResult}
-use Rattle.capi_records.specs.Results.{flagsFit, controlIn, Returned, RunReturned, WriteReturned, runCall, resetCall, startCall, autoloadCall, loadCall, writeCall}
+use Rattle.capi_records.specs.Results.{flagsFit, controlIn, Returned, RunReturned, WriteReturned, runCall, resetCall, startCall, autoloadCall, loadCall, overlayCall, writeCall}
 
 -- the number of a run's refusal, 0 where the run is not refused
 abbrev pub numberOf : CallResult → ℕ
@@ -101,4 +101,5 @@ RefusedAsGiven =
     × StateAsGiven s r (startCall s r)
     × AutoloadAsGiven s r d (autoloadCall s r d cs)
     × StateAsGiven s r (loadCall tape s r)
+    × StateAsGiven s r (overlayCall tape s r)
     × WriteAsGiven o (writeCall s r g m o)

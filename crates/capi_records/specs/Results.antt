@@ -23,7 +23,7 @@ use Rattle.definition_instructions.specs.Machine.{Computer}
 use Rattle.definition_runs.specs.Keys.{Pressed, pressingReset, pressingStart}
 use Rattle.definition_runs.specs.Lent as Lent
 use Rattle.definition_runs.specs.Lent.{runLent, KeyReturned, autoloadLent}
-use Rattle.definition_tape.specs.Load.{judgeThen, Loaded, loading}
+use Rattle.definition_tape.specs.Load.{judgeThen, Loaded, loading, overlaying}
 use Rattle.definition_tape.specs.Writing.{remarkOf, Writing, writing}
 use Rattle.definition_tape.specs.declared.Span.{Span}
 use Rattle.definition_tape.specs.declared.Written.{Written}
@@ -182,6 +182,9 @@ loadBy r x = returned (stateBy (x .state .verdict) r (x .state .control)) (x .ce
 
 unfoldable pub loadCall : List ℕ → List ℕ → ControlRecord → Returned StateResult
 loadCall t s r = loadBy r (loading t s (controlIn r))
+
+unfoldable pub overlayCall : List ℕ → List ℕ → ControlRecord → Returned StateResult
+overlayCall t s r = loadBy r (overlaying t s (controlIn r))
 
 -- the first remark's place in the tape
 unfoldable pub textOf : Span → TextResult

@@ -1,4 +1,4 @@
--- Worked C calls, by computation: the flag bytes and their refusals, written tapes.
+-- Worked C calls, by computation: the flag bytes and their refusals, loads and overlays, written tapes.
 -- Assumes nothing.
 use Prim.Native.Nat.{ℕ}
 use mathlib.Core.Path.{_≡_, refl}
@@ -11,11 +11,11 @@ use Rattle.machine.specs.declared.Refusal.the-variants.{StoreSize, CellValue, C
 use Rattle.acceptance.specs.Accept.{sizeFits, cellFits, cellsFit, judgeStore}
 use Rattle.definition_tape.specs.Layout.{recordsWithin, recordsOf}
 use Rattle.definition_tape.specs.Judge.{judgeRecords, judgeTape}
-use Rattle.definition_tape.specs.Load.{judgeLoad, loading}
-use Rattle.definition_tape.specs.Examples.{opened, openedWriting, scopeTape}
+use Rattle.definition_tape.specs.Load.{judgeLoad, loading, overlaying}
+use Rattle.definition_tape.specs.Examples.{opened, openedWriting, scopeTape, oldCells}
 use Rattle.capi_records.specs.declared.ControlRecord.{ControlRecord}
 use Rattle.capi_records.specs.declared.StateResult.{StateResult}
-use Rattle.capi_records.specs.Results.{flagsFit, flagByte, controlIn, recordOf, judgeFlags, refusedRun, refusedState, Returned, returned, runReturned, writeReturned, runCall, resetCall, startCall, autoloadCall, loadCall, writeCall}
+use Rattle.capi_records.specs.Results.{flagsFit, flagByte, controlIn, recordOf, judgeFlags, refusedRun, refusedState, Returned, returned, runReturned, writeReturned, runCall, resetCall, startCall, autoloadCall, loadCall, overlayCall, writeCall}
 
 -- a record with the flag bytes m, e and r, and the record with such flags
 abbrev bytes : ℕ → ℕ → ℕ → ControlRecord
@@ -77,22 +77,25 @@ autoload-flags : autoloadBy3 (bytes 2 0 0) × autoloadBy3 (bytes 1 2 1) × autol
 unfolding autoloadCall judgeFlags flagsFit judgeStore sizeFits cellsFit cellFits
 autoload-flags = (refl, refl, refl)
 
--- a load does not test the given record: an empty tape is refused with 6
-load-untested : loadCall [] (replicate 8 0) (bytes 2 2 2) ≡ returned (refusedState TapeEnds (bytes 2 2 2)) (replicate 8 0)
-unfolding loadCall loading judgeLoad judgeTape judgeRecords recordsOf recordsWithin judgeStore sizeFits cellsFit cellFits
-load-untested = refl
+-- a load and an overlay do not test the given record: an empty tape is refused with 6, and the cells stay
+untested : (loadCall [] oldCells (bytes 2 2 2) ≡ returned (refusedState TapeEnds (bytes 2 2 2)) oldCells)
+    × (overlayCall [] oldCells (bytes 2 2 2) ≡ returned (refusedState TapeEnds (bytes 2 2 2)) oldCells)
+unfolding loadCall overlayCall loading overlaying judgeLoad judgeTape judgeRecords recordsOf recordsWithin judgeStore sizeFits cellsFit cellFits
+untested = (refl, refl)
 
--- and document 01's tape loads: PR 128, monitor mode, the reset state
-load-accepted :
-    loadCall scopeTape (replicate 8 0) (bytes 2 2 2)
-    ≡ returned (record { control = record { ic = 0; ir = 0; im = 0; pending = 0; pr = 128; ex = 0; monitor = 1; enabled = 0; reset = 1 }; refusal = 0 }) (replicate 8 0)
+-- and document 01's tape loads: PR 128, monitor mode, the reset state; no block names a cell: a load clears them all, an overlay keeps them
+abbrev freshBytes : ControlRecord
+freshBytes = record { ic = 0; ir = 0; im = 0; pending = 0; pr = 128; ex = 0; monitor = 1; enabled = 0; reset = 1 }
+
+load-accepted : loadCall scopeTape oldCells (bytes 2 2 2) ≡ returned (record { control = freshBytes; refusal = 0 }) (replicate 8 0)
 unfolding loadCall recordOf flagByte opened
 load-accepted = refl
 
--- ---- a written tape
+overlay-accepted : overlayCall scopeTape oldCells (bytes 2 2 2) ≡ returned (record { control = freshBytes; refusal = 0 }) oldCells
+unfolding overlayCall recordOf flagByte opened
+overlay-accepted = refl
 
-abbrev freshBytes : ControlRecord
-freshBytes = record { ic = 0; ir = 0; im = 0; pending = 0; pr = 128; ex = 0; monitor = 1; enabled = 0; reset = 1 }
+-- ---- a written tape
 
 -- 0 is no remark, every other byte gives one
 no-remark-by-0 : writeCall (replicate 8 0) freshBytes 0 (65 ∷ []) (replicate 33 9) ≡ writeReturned (record { refusal = 0; length = 32 }) (scopeTape ++ (9 ∷ []))

@@ -1,7 +1,7 @@
 // Loads and reads the tapes of the file stdin, case by case, and writes what came of each. tools/cases_tape.py writes the cases and the answers.
 //
-// All numbers have 4 bytes, little-endian. First the number of cases. A case: 1 (load) or 2 (remark), the number of cells, the number of cells
-// that are not zero, the number of the tape's bytes; then index and value of each cell that is not zero; then the tape.
+// All numbers have 4 bytes, little-endian. First the number of cases. A case: 1 (load), 2 (remark) or 3 (overlay), the number of cells, the number
+// of cells that are not zero, the number of the tape's bytes; then index and value of each cell that is not zero; then the tape.
 ghost use Prim.Native.Nat.{_≤_};
 use machine::Control;
 use machine::State;
@@ -21,14 +21,6 @@ fn read_number() -> u32 {
     let mut b = [0u8; 4];
     io::read_full(0, &mut b);
     joined(b[0], b[1], b[2], b[3])
-}
-
-fn clear(store: &mut [u32]) {
-    let mut i: usize = 0;
-    while i < store.len() {
-        store[i] = 0;
-        i += 1;
-    }
 }
 
 fn read_cell(store: &mut [u32], copy: &mut [u32]) {
@@ -135,14 +127,19 @@ fn print_load(s: State, store: &[u32], given: &[u32]) {
     io::write_all(1, b"\n");
 }
 
-fn load_case(copy: &[u32], store: &mut [u32], tape: &[u8]) {
-    let s = tape_load::load(store, given_control(), tape);
-    print_load(s, store, copy);
+fn load_case(kind: u32, copy: &[u32], store: &mut [u32], tape: &[u8]) {
+    if kind == 1 {
+        let s = tape_load::load(store, given_control(), tape);
+        print_load(s, store, copy);
+    } else {
+        let s = tape_load::overlay(store, given_control(), tape);
+        print_load(s, store, copy);
+    }
 }
 
-fn sized_case(copy: &[u32], store: &mut [u32], size: usize, tape: &[u8]) {
+fn sized_case(kind: u32, copy: &[u32], store: &mut [u32], size: usize, tape: &[u8]) {
     if size <= store.len() {
-        load_case(copy, &mut store[..size], tape);
+        load_case(kind, copy, &mut store[..size], tape);
     }
 }
 
@@ -183,7 +180,7 @@ fn tape_case(kind: u32, cells: u32, store: &mut [u32], copy: &[u32], tape: &[u8]
         remark_case(cells, tape);
         return;
     }
-    sized_case(copy, store, cells as usize, tape);
+    sized_case(kind, copy, store, cells as usize, tape);
 }
 
 fn read_tape(kind: u32, cells: u32, store: &mut [u32], copy: &[u32], tape: &mut [u8]) {
@@ -205,8 +202,8 @@ fn sized_tape(
 }
 
 fn one_case(store: &mut [u32], copy: &mut [u32], tape: &mut [u8]) {
-    clear(store);
-    clear(copy);
+    tape_load::clear(store);
+    tape_load::clear(copy);
     let kind = read_number();
     let cells = read_number();
     let count = read_number();

@@ -143,9 +143,9 @@ pub passed-then : (v w : Verdict) → judgeThen v w ≡ Accepted → (v ≡ Acce
 passed-then (Rejected r) w e = refused e
 passed-then Accepted w e = (refl, e)
 
-pub load-judged : (t s : List ℕ) → judgeLoad t s ≡ Accepted → Judged (length s) false [] t
+pub load-accepts : (t s : List ℕ) → judgeLoad t s ≡ Accepted → judgeTape (length s) t ≡ Accepted
 unfolding judgeLoad
-load-judged t s e = tape-judged (length s) t (passed-then (judgeStore s) _ e .1) .1
+load-accepts t s e = passed-then (judgeStore s) _ e .1
 
 pub reading-judged : (t : List ℕ) (n : ℕ) → judgeReading t n ≡ Accepted → Judged n false [] t
 unfolding judgeReading

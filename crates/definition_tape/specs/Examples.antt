@@ -11,12 +11,12 @@ use lib.ListN.{take, drop, replicate}
 use Rattle.machine.specs.Answers.{verdictNumber}
 use Rattle.machine.specs.Records.{freshRecord}
 use Rattle.machine.specs.declared.Control.{Control}
-use Rattle.machine.specs.declared.Refusal.the-variants.{RecordKind, RecordOrder, WrittenLength, BufferLength}
+use Rattle.machine.specs.declared.Refusal.the-variants.{CellValue, TapeEnds, RecordKind, RecordOrder, WrittenLength, BufferLength}
 use Rattle.machine.specs.declared.Verdict.the-variants.{Accepted, Rejected}
 use Rattle.acceptance.specs.Accept.{sizeFits, cellsFit, stateFits, controlFits, judgeStore, judgeMachine}
 use Rattle.definition_tape.specs.Layout.{lengthOf, kindOf, payloadOf, restOf, recordsWithin, recordsOf, firstOf, cellsFrom, blockCells, controlOf}
 use Rattle.definition_tape.specs.Judge.{kindKnown, inOrder, lengthFits, judgeBlock, controlGood, judgeControl, judgePayload, judgeRecord, names, timesNamed, unnamedFrom, judgeRecords, judgeTape}
-use Rattle.definition_tape.specs.Load.{pasted, storedBlock, loadRecord, loadRecords, loadedControl, judgeLoad, loading}
+use Rattle.definition_tape.specs.Load.{pasted, storedBlock, loadRecord, loadRecords, tapeCells, loadedControl, judgeLoad, cleared, loading, overlaying}
 use Rattle.definition_tape.specs.Blocks.{Block, Names, Named, NamedOnce, stretch, blocksFrom, storeBlocks}
 use Rattle.definition_tape.specs.Bytes.{headerBytes, recordBytes, cellsBytes, blockBytes, blocksBytes, controlBytes, remarkRecord, tapeOf}
 use Rattle.definition_tape.specs.Writing.{remarkFits, judgeSize, judgeParts, judgeWriting, writingBy, writing}
@@ -24,7 +24,7 @@ use Rattle.definition_tape.specs.Remark.{judgeReading, noSpan, remarkSpa
 
 -- opens what a tape is read by
 unfoldable pub opened : ℕ
-unfolding lengthOf kindOf payloadOf restOf recordsWithin recordsOf firstOf controlOf kindKnown inOrder lengthFits controlGood judgeControl judgePayload judgeRecord names timesNamed unnamedFrom judgeRecords judgeTape sizeFits cellsFit stateFits controlFits judgeStore loadRecord loadRecords loadedControl judgeLoad loading judgeReading remarkSpan cellsFrom blockCells judgeBlock pasted storedBlock
+unfolding lengthOf kindOf payloadOf restOf recordsWithin recordsOf firstOf controlOf kindKnown inOrder lengthFits controlGood judgeControl judgePayload judgeRecord names timesNamed unnamedFrom judgeRecords judgeTape sizeFits cellsFit stateFits controlFits judgeStore loadRecord loadRecords tapeCells loadedControl judgeLoad cleared loading overlaying judgeReading remarkSpan cellsFrom blockCells judgeBlock pasted storedBlock
 opened = 0
 
 -- with flags f and the last byte z
@@ -37,8 +37,8 @@ flagsTape f = controlTape f 0
 abbrev pub scopeTape : List ℕ
 scopeTape = flagsTape 5
 
--- IC, IR, IM, pending and EX zero, PR 128, monitor mode, the reset state; the cells keep what they held; there is no remark
-pub paper-tape : (c : Control) → (loading scopeTape (replicate 8 7) c ≡ record { cells = replicate 8 7; state = record { control = freshRecord; verdict = Accepted } }) × (remarkSpan scopeTape 8 ≡ noSpan 0)
+-- IC, IR, IM, pending and EX zero, PR 128, monitor mode, the reset state; the cells are cleared; there is no remark
+pub paper-tape : (c : Control) → (loading scopeTape (replicate 8 7) c ≡ record { cells = replicate 8 0; state = record { control = freshRecord; verdict = Accepted } }) × (remarkSpan scopeTape 8 ≡ noSpan 0)
 unfolding opened
 paper-tape c = (refl, refl)
 
@@ -59,7 +59,7 @@ flags-apart c = (refl, refl, refl, refl, refl)
 abbrev pub blockTape : List ℕ
 blockTape = 12 ∷ 0 ∷ 0 ∷ 0 ∷ 1 ∷ 0 ∷ 6 ∷ 0 ∷ 0 ∷ 0 ∷ 5 ∷ 0 ∷ 0 ∷ 0 ∷ 6 ∷ 0 ∷ 0 ∷ 7 ∷ 1 ∷ 0 ∷ 0 ∷ 0 ∷ 4 ∷ 0 ∷ 65 ∷ scopeTape
 
-pub block-tape : (c : Control) → (loading blockTape (replicate 8 7) c .cells ≡ replicate 6 7 ++ (5 ∷ 117440518 ∷ [])) × (remarkSpan blockTape 8 ≡ record { start = 24; end = 25; found = true; refusal = 0 })
+pub block-tape : (c : Control) → (loading blockTape (replicate 8 7) c .cells ≡ replicate 6 0 ++ (5 ∷ 117440518 ∷ [])) × (remarkSpan blockTape 8 ≡ record { start = 24; end = 25; found = true; refusal = 0 })
 unfolding opened
 block-tape c = (refl, refl)
 
@@ -78,7 +78,7 @@ bytesTape =
 pub bytes-tape : (c : Control)
     → loading bytesTape (replicate 8 7) c
     ≡ record {
-      cells = replicate 7 7 ++ (67305985 ∷ []);
+      cells = replicate 7 0 ++ (67305985 ∷ []);
       state = record {
         control = record { ic = 197121; ir = 394500; im = 591879; pending = 789258; pr = 130; ex = 5; monitor = false; enabled = true; reset = false };
         verdict = Accepted;
@@ -86,6 +86,32 @@ pub bytes-tape : (c : Control)
     }
 unfolding opened
 bytes-tape c = refl
+
+-- ---- load and overlay
+
+-- words and keys in every cell
+abbrev pub oldCells : List ℕ
+oldCells = 117440513 ∷ 2 ∷ 16777219 ∷ 4 ∷ 5 ∷ 50331654 ∷ 7 ∷ 33554440 ∷ []
+
+-- a load clears the six cells that no block names, words and keys; an overlay keeps them; the control record is the tape's by both
+pub cleared-and-kept : (c : Control)
+    → (loading blockTape oldCells c ≡ record { cells = 0 ∷ 0 ∷ 0 ∷ 0 ∷ 0 ∷ 0 ∷ 5 ∷ 117440518 ∷ []; state = record { control = freshRecord; verdict = Accepted } })
+    × (overlaying blockTape oldCells c ≡ record { cells = 117440513 ∷ 2 ∷ 16777219 ∷ 4 ∷ 5 ∷ 50331654 ∷ 5 ∷ 117440518 ∷ []; state = record { control = freshRecord; verdict = Accepted } })
+unfolding opened
+cleared-and-kept c = (refl, refl)
+
+-- refused with 6, both leave cells and control record as they came
+pub refused-as-given : (c : Control)
+    → (loading [] oldCells c ≡ record { cells = oldCells; state = record { control = c; verdict = Rejected TapeEnds } })
+    × (overlaying [] oldCells c ≡ record { cells = oldCells; state = record { control = c; verdict = Rejected TapeEnds } })
+unfolding opened
+refused-as-given c = (refl, refl)
+
+-- 2 is tested on the store as it came, though the cell would be cleared
+pub cell-as-it-came : (c : Control)
+    → (loading scopeTape (134217728 ∷ replicate 7 0) c .state .verdict ≡ Rejected CellValue) × (overlaying scopeTape (134217728 ∷ replicate 7 0) c .state .verdict ≡ Rejected CellValue)
+unfolding opened
+cell-as-it-came c = (refl, refl)
 
 -- ---- 17
 

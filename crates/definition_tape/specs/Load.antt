@@ -3,7 +3,7 @@
 use Prim.Native.Nat.{ℕ}
 use mathlib.Core.Bool.{cond}
 use mathlib.Core.List.{List, [], _∷_, _++_}
-use lib.ListN.{length, take, drop}
+use lib.ListN.{length, take, drop, replicate}
 use lib.Dec.{eqb}
 use Rattle.machine.specs.declared.Control.{Control}
 use Rattle.machine.specs.declared.State.{State}
@@ -25,16 +25,20 @@ storedBlock s i cs = take i s ++ pasted (drop i s) cs
 unfoldable pub loadRecord : List ℕ → List ℕ → List ℕ
 loadRecord s t = cond (eqb (kindOf t) 1) (storedBlock s (firstCell (payloadOf t)) (blockCells (payloadOf t))) s
 
--- record by record; cells that no block names keep what they held. An accepted tape names none twice
+-- record by record. An accepted tape names no cell twice
 unfoldable pub loadRecords : List ℕ → List (List ℕ) → List ℕ
 loadRecords s [] = s
 loadRecords s (t ∷ ts) = loadRecords (loadRecord s t) ts
+
+-- the tape's cells over those of s: cells that no block names are those of s
+unfoldable pub tapeCells : List ℕ → List ℕ → List ℕ
+tapeCells s t = loadRecords s (recordsOf t)
 
 -- kind 2, control
 unfoldable pub loadedControl : List ℕ → Control
 loadedControl t = controlOf (payloadOf (firstOf 2 (recordsOf t)))
 
--- ---- loading
+-- ---- loading (document 02, E5)
 
 -- 1 and 2, then the tape
 abbrev pub judgeThen : Verdict → Verdict → Verdict
@@ -49,11 +53,19 @@ pub record Loaded : Type 0 where
   pub cells : List ℕ
   pub state : State
 
--- on a refusal store and control record come back as given
-abbrev pub loadedBy : Verdict → List ℕ → List ℕ → Control → Loaded
-loadedBy (Rejected r) t s c = record { cells = s; state = record { control = c; verdict = Rejected r } }
-loadedBy Accepted t s c = record { cells = loadRecords s (recordsOf t); state = record { control = loadedControl t; verdict = Accepted } }
+-- accepted: the tape's cells over those of u, and its control record. On a refusal store and control record come back as given
+abbrev pub loadedBy : Verdict → List ℕ → List ℕ → List ℕ → Control → Loaded
+loadedBy (Rejected r) t u s c = record { cells = s; state = record { control = c; verdict = Rejected r } }
+loadedBy Accepted t u s c = record { cells = tapeCells u t; state = record { control = loadedControl t; verdict = Accepted } }
 
--- the tape t into a store of the cells s, with the caller's control record c
+-- n cells of word 0, key 0
+unfoldable pub cleared : ℕ → List ℕ
+cleared n = replicate n 0
+
+-- load: the tape t into a store of the cells s, with the caller's control record c; its cells over zero
 unfoldable pub loading : List ℕ → List ℕ → Control → Loaded
-loading t s c = loadedBy (judgeLoad t s) t s c
+loading t s c = loadedBy (judgeLoad t s) t (cleared (length s)) s c
+
+-- overlay: its cells over what was there
+unfoldable pub overlaying : List ℕ → List ℕ → Control → Loaded
+overlaying t s c = loadedBy (judgeLoad t s) t s s c

@@ -5,7 +5,7 @@ ghost use Rattle.definition_instructions.specs.Machine.{computer};
 ghost use Rattle.definition_runs.specs.Lent.{runResultOf, pressedOf, returned, runLent, keyReturned, autoloadLent};
 ghost use Rattle.definition_runs.specs.Keys.{pressingReset, pressingStart};
 ghost use Rattle.run_promises.specs.Promises.{KeepsProtected, TouchesNoDevice, Counts};
-ghost use Rattle.definition_tape.specs.Load.{loading};
+ghost use Rattle.definition_tape.specs.Load.{loading, overlaying};
 ghost use Rattle.definition_tape.specs.Remark.{remarkSpan, remarkText, placeFrom};
 ghost use Rattle.definition_tape.specs.Writing.{remarkOf, writing};
 use definition_tape::Written;
@@ -79,12 +79,20 @@ pub fn press_autoload(
     panel_keys::press_autoload(store, control, devices, characters)
 }
 
-// Loads a tape: the control record handed back is the tape's, or on a refusal the given one.
+// Loads a tape: cells that no block names are cleared. The control record handed back is the tape's, or on a refusal the given one.
 pub fn load(store: &mut [u32], control: Control, tape: &[u8]) -> State
     ensures state { λ r. ⌜ r ≡ loading (now (tape .entry)) (now (store .entry)) control .state ⌝ }
     ensures cells { λ _. ⌜ now (store .exit) ≡ loading (now (tape .entry)) (now (store .entry)) control .cells ⌝ }
 {
     tape_load::load(store, control, tape)
+}
+
+// Lays a tape over what the store holds: cells that no block names are kept. Nothing else differs from a load.
+pub fn overlay(store: &mut [u32], control: Control, tape: &[u8]) -> State
+    ensures state { λ r. ⌜ r ≡ overlaying (now (tape .entry)) (now (store .entry)) control .state ⌝ }
+    ensures cells { λ _. ⌜ now (store .exit) ≡ overlaying (now (tape .entry)) (now (store .entry)) control .cells ⌝ }
+{
+    tape_load::overlay(store, control, tape)
 }
 
 // The first remark's text as a part of the tape, where the tape loads into that many cells; empty for none and for a refusal.

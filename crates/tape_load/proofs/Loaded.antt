@@ -5,14 +5,15 @@ use mathlib.Core.List.{List, _++_, append-nil}
 use native.Mathlib.Numerals.{add-one}
 use native.Mathlib.Omega.{arith}
 use borrow.Author.Tests.{eq-eqb, ne-eqb}
-use lib.ListN.{length, take, drop, getD, set, length-take, length-drop, drop-of-length-le}
+use lib.ListN.{length, take, drop, getD, set, replicate, length-take, length-drop, drop-of-length-le}
 use lib.Seq.{take-suc, drop-cons, drop-drop, set-at, append-snoc, take-all}
 use Rattle.machine.specs.declared.Control.{Control}
 use Rattle.machine.specs.declared.Refusal.{Refusal}
+use Rattle.machine.specs.declared.State.{State}
 use Rattle.machine.specs.declared.Verdict.{Verdict}
 use Rattle.machine.specs.declared.Verdict.the-variants.{Accepted, Rejected}
 use Rattle.definition_tape.specs.Layout.{lengthOf, kindOf, payloadOf, restOf, recordsOf, firstCell, cellCount, blockCells}
-use Rattle.definition_tape.specs.Load.{pasted, storedBlock, loadRecord, loadRecords, loadedControl, judgeLoad, loading}
+use Rattle.definition_tape.specs.Load.{pasted, storedBlock, loadRecord, loadRecords, tapeCells, loadedControl, cleared, loadedBy}
 use Rattle.definition_tape.proofs.Records.{length-payload}
 use Rattle.tape_records.proofs.Lent.{tail, length-tail}
 use Rattle.definition_tape.proofs.Loads.{load-more, load-none}
@@ -30,6 +31,12 @@ paste-more d cs i x h l e =
 pub paste-all : (d cs r : List ℕ) (i : ℕ) → i ≡ length cs → r ≡ take i cs ++ drop i d → r ≡ pasted d cs
 unfolding pasted
 paste-all d cs r i e h = h ∙ rw (e, take-all (length cs) cs (omega arith))
+
+pub fill-all : (d r : List ℕ) (i : ℕ) → i ≡ length d → r ≡ replicate i 0 ++ drop i d → r ≡ cleared (length d)
+unfolding cleared
+fill-all d r i e h =
+    let l : length d ≤ length d = omega arith in
+    h ∙ rw (e, drop-of-length-le d l, append-nil)
 
 -- `&mut s[i..]` is lent as `take (n - i) (drop i s)`, n being the length, and comes back between `take i s` and `drop (n - i) (drop i s)`
 pub stored-back : (s cs : List ℕ) (i : ℕ)
@@ -81,13 +88,11 @@ module _ (n : ℕ) (s t : List ℕ) (at : ℕ) (h : 6 ≤ length t - at) (f : Re
 pub load-end : (s t : List ℕ) (at : ℕ) → length t - at < 6 → s ≡ loadRecords s (recordsOf (drop at t))
 load-end s t at h = sym (load-none s (drop at t) (rw (length-drop at t) h))
 
--- ---- the loader's ways out
-module _ (t s : List ℕ) (c : Control) (v : Verdict) (e : v ≡ judgeLoad t s) where
-  pub load-accepted : (s′ : List ℕ) (c′ : Control) → v ≡ Accepted → s′ ≡ loadRecords s (recordsOf t) → c′ ≡ loadedControl t
-      → (record { control = c′; verdict = Accepted } ≡ loading t s c .state) × (s′ ≡ loading t s c .cells)
-  unfolding loading
-  load-accepted s′ c′ a f g = rw (← e, a, g) (refl, f)
+-- ---- the ways out: t into a store of the cells s, over those of u
+pub laid : (t u s s′ : List ℕ) (c : Control) (v : Verdict) (x : State) → v ≡ Accepted → x ≡ record { control = loadedControl t; verdict = Accepted } → s′ ≡ tapeCells u t
+    → (x ≡ loadedBy v t u s c .state) × (s′ ≡ loadedBy v t u s c .cells)
+laid t u s s′ c v x a e f = rw a (e, f)
 
-  pub load-refused : (r : Refusal) → v ≡ Rejected r → (record { control = c; verdict = Rejected r } ≡ loading t s c .state) × (s ≡ loading t s c .cells)
-  unfolding loading
-  load-refused r a = rw (← e, a) (refl, refl)
+pub not-laid : (t u s : List ℕ) (c : Control) (v : Verdict) (r : Refusal) → v ≡ Rejected r
+    → (record { control = c; verdict = Rejected r } ≡ loadedBy v t u s c .state) × (s ≡ loadedBy v t u s c .cells)
+not-laid t u s c v r a = rw a (refl, refl)

@@ -3,7 +3,9 @@ ghost use mathlib.Core.Path.{_≡_};
 ghost use Prim.Native.Nat.{_+_, _*_, _≤_};
 ghost use lib.ListN.{length};
 ghost use Rattle.definition_tape.specs.Layout.{lengthOf, recordsOf, firstOf, firstCell, cellCount, cellsFrom, blockCells};
-ghost use Rattle.definition_tape.specs.Load.{pasted, storedBlock, loadRecord, loadRecords, loadedControl, judgeLoad, loading};
+ghost use Rattle.machine.specs.declared.Verdict.the-variants.{Accepted};
+ghost use Rattle.definition_tape.specs.Judge.{judgeTape};
+ghost use Rattle.definition_tape.specs.Load.{pasted, storedBlock, loadRecord, loadRecords, tapeCells, loadedControl, judgeLoad, cleared, loading, overlaying};
 ghost use Rattle.tape_load.specs.Fits.{RecordFits, RecordsFit, ControlThere};
 use machine::Control;
 use machine::State;
@@ -81,7 +83,32 @@ fn judge_load(tape: &[u8], store: &[u32]) -> Verdict
     }
 }
 
-// Loads a tape. On a refusal nothing changes, and the given control record comes back.
+// An accepted tape: its cells over those of the store, and its control record.
+fn lay(store: &mut [u32], tape: &[u8]) -> State
+    requires { ⌜ judgeTape (length (now store)) (now tape) ≡ Accepted ⌝ }
+    ensures state { λ r. ⌜ r ≡ record { control = loadedControl (now (tape .entry)); verdict = Accepted } ⌝ }
+    ensures cells { λ _. ⌜ now (store .exit) ≡ tapeCells (now (store .entry)) (now (tape .entry)) ⌝ }
+{
+    load_records(store, tape);
+    let c = loaded_control(tape);
+    State {
+        control: c,
+        verdict: Verdict::Accepted,
+    }
+}
+
+// Every cell to word 0, key 0.
+pub fn clear(store: &mut [u32])
+    ensures { λ _. ⌜ now (store .exit) ≡ cleared (length (now (store .entry))) ⌝ }
+{
+    let mut index: usize = 0;
+    while index < store.len() {
+        store[index] = 0;
+        index += 1;
+    }
+}
+
+// Loads a tape: cells that no block names are cleared. On a refusal nothing changes, and the given control record comes back.
 pub fn load(store: &mut [u32], control: Control, tape: &[u8]) -> State
     ensures state { λ r. ⌜ r ≡ loading (now (tape .entry)) (now (store .entry)) control .state ⌝ }
     ensures cells { λ _. ⌜ now (store .exit) ≡ loading (now (tape .entry)) (now (store .entry)) control .cells ⌝ }
@@ -89,13 +116,24 @@ pub fn load(store: &mut [u32], control: Control, tape: &[u8]) -> State
     let v = judge_load(tape, store);
     match v {
         Verdict::Accepted => {
-            load_records(store, tape);
-            let c = loaded_control(tape);
-            State {
-                control: c,
-                verdict: Verdict::Accepted,
-            }
+            clear(store);
+            lay(store, tape)
         }
+        Verdict::Rejected(r) => State {
+            control: control,
+            verdict: Verdict::Rejected(r),
+        },
+    }
+}
+
+// Lays a tape over the store: cells that no block names are kept. On a refusal nothing changes, and the given control record comes back.
+pub fn overlay(store: &mut [u32], control: Control, tape: &[u8]) -> State
+    ensures state { λ r. ⌜ r ≡ overlaying (now (tape .entry)) (now (store .entry)) control .state ⌝ }
+    ensures cells { λ _. ⌜ now (store .exit) ≡ overlaying (now (tape .entry)) (now (store .entry)) control .cells ⌝ }
+{
+    let v = judge_load(tape, store);
+    match v {
+        Verdict::Accepted => lay(store, tape),
         Verdict::Rejected(r) => State {
             control: control,
             verdict: Verdict::Rejected(r),

@@ -1,12 +1,13 @@
 -- The proofs of specs/Claims.antt on what is accepted, loaded and read. Assumes nothing.
-use Prim.Native.Nat.{ℕ, _≤_}
+use Prim.Native.Nat.{ℕ, zero, suc, _≤_}
 use mathlib.Core.Path.{_≡_, refl, sym, _∙_}
 use mathlib.Core.Bool.{Bool, true, false, cond}
 use mathlib.Core.List.{List, []}
 use native.Mathlib.Omega.{arith}
 use borrow.Author.Tests.{le-leb}
-use lib.ListN.{length, getD}
+use lib.ListN.{length, getD, replicate, length-replicate}
 use lib.Seq.{ext-getD}
+use Rattle.machine.specs.declared.Control.{Control}
 use Rattle.machine.specs.declared.Refusal.the-variants.{CellValue, StoreSize}
 use Rattle.machine.specs.declared.Verdict.{Verdict}
 use Rattle.machine.specs.declared.Verdict.the-variants.{Accepted, Rejected}
@@ -14,12 +15,13 @@ use Rattle.acceptance.proofs.Tests.{passed, refused}
 use Rattle.acceptance.specs.Accept.{sizeFits, cellsFit, judgeStore, judgeMachine}
 use Rattle.definition_tape.specs.Layout.{recordsOf}
 use Rattle.definition_tape.specs.Judge.{judgeTape, timesNamed}
-use Rattle.definition_tape.specs.Load.{loadRecords, loadedControl, judgeThen, judgeLoad, loadedBy, loading}
+use Rattle.definition_tape.specs.Load.{loadRecords, tapeCells, loadedControl, judgeThen, judgeLoad, loadedBy, cleared, loading, overlaying}
 use Rattle.definition_tape.specs.Remark.{judgeReading, remarkSpan, remarkText}
 use Rattle.definition_tape.proofs.Judged.{judged-back, tape-judged, passed-then}
 use Rattle.definition_tape.proofs.Remarks.{remark-part as part}
-use Rattle.tape_promises.specs.Grammar.{TapeFor}
-use Rattle.tape_promises.specs.Claims.{AcceptedTapes, NoCellTwice, LoadsLayout, KeptCells, AnyOrder, AcceptedInAnyOrder, KeptSize, KeptAll, LoadedMachines, SameVerdict, FirstRemark, RemarkPart}
+use Rattle.tape_promises.specs.Grammar.{TapeFor, blocksOf}
+use Rattle.tape_promises.specs.Contents.{SameBlocks}
+use Rattle.tape_promises.specs.Claims.{AcceptedTapes, NoCellTwice, Call, load, overlay, called, unnamedCell, LoadedFrom, LoadsLayout, UnnamedCells, SameMachine, LoadIsOverlay, BorderOverGround, AnyOrder, AcceptedInAnyOrder, KeptSize, KeptAll, LoadedMachines, SameVerdict, FirstRemark, RemarkPart}
 use Rattle.tape_promises.proofs.Grammars.{grammar, judged-of}
 use Rattle.tape_promises.proofs.Once.{judged-once, once-blocks, blocks-once, once-order, names-two}
 use Rattle.tape_promises.proofs.Contents.{only-kept, same-cell, size-loaded, cells-loaded, cells-fit, control-is, control-payload-good, control-fields, span-is, text-is}
@@ -50,54 +52,79 @@ load-judged : (t s : List ℕ) → judgeLoad t s ≡ Accepted → (judgeStore s 
 unfolding judgeLoad
 load-judged t s e = let b = passed-then (judgeStore s) _ e in (b .0, accepted-tapes (length s) t .0 (b .1))
 
-load-accepted : (t s : List ℕ) → judgeStore s ≡ Accepted → TapeFor (length s) t → judgeLoad t s ≡ Accepted
+load-accepted : {n : ℕ} (t s : List ℕ) → judgeStore s ≡ Accepted → TapeFor n t → n ≡ length s → judgeLoad t s ≡ Accepted
 unfolding judgeLoad
-load-accepted t s e h = rw e (accepted-tapes (length s) t .1 h)
+load-accepted {n} t s e h z = rw (e, ← z) (accepted-tapes n t .1 h)
+
+-- the cells u that lie under the tape's
+under : Call → List ℕ → List ℕ
+under load s = cleared (length s)
+under overlay s = s
+
+size-under : (k : Call) (s : List ℕ) → length s ≡ length (under k s)
+unfolding under cleared
+size-under load s = sym (length-replicate {A = ℕ} (length s) 0)
+size-under overlay s = refl
+
+called-is : (k : Call) (t s : List ℕ) (c : Control) → called k t s c ≡ loadedBy (judgeLoad t s) t (under k s) s c
+unfolding under loading overlaying
+called-is load t s c = refl
+called-is overlay t s c = refl
+
+cell-zero : (n i : ℕ) → getD {A = ℕ} (replicate n 0) i 0 ≡ 0
+cell-zero zero i = refl
+cell-zero (suc n) zero = refl
+cell-zero (suc n) (suc i) = cell-zero n i
+
+cell-under : (k : Call) (s : List ℕ) (i : ℕ) → getD (under k s) i 0 ≡ unnamedCell k s i
+unfolding under cleared
+cell-under load s i = cell-zero (length s) i
+cell-under overlay s i = refl
+
+-- an accepted tape over the cells u
+over : {n : ℕ} (t u s : List ℕ) (c : Control) (h : TapeFor n t) → n ≡ length u → LoadedFrom (h .layout) (λ i. getD u i 0) (loadedBy Accepted t u s c)
+unfolding loadedControl tapeCells
+over t u s c h e =
+    let r = h .layout in
+    record { accepted = refl; size = size-loaded u r e ∙ sym e; cells = cells-loaded u r e (h .once); control = rw (control-is r) (control-fields r) }
 
 pub loads-layout : LoadsLayout
-unfolding loading loadedControl
-loads-layout t s c e h =
-    let r = h .layout in
-    rw (load-accepted t s e h)
-    (record { accepted = refl; size = size-loaded s r refl; cells = cells-loaded s r refl (h .once); control = rw (control-is r) (control-fields r) })
+loads-layout k t s c e h =
+    let x = over t (under k s) s c h (size-under k s) in
+    rw (called-is k t s c, load-accepted t s e h refl)
+    (record { accepted = x .accepted; size = x .size; cells = λ i. rw (← cell-under k s i) (x .cells i); control = x .control })
 
-pub kept-cells : KeptCells
-unfolding loading
-kept-cells t s c h i u = at (judgeLoad t s)
-  where
-    at : (v : Verdict) → getD (loadedBy v t s c .cells) i 0 ≡ getD s i 0
-    at (Rejected q) = refl
-    at Accepted = only-kept (cells-loaded s (h .layout) refl (h .once) i) u
+pub unnamed-cells : UnnamedCells
+unnamed-cells k t s c e h i u = only-kept (loads-layout k t s c e h .cells i) u
+
+cells-any-order : {n : ℕ} (t u s : List ℕ) (h : TapeFor n t) (j : TapeFor n u) → n ≡ length s → SameBlocks (blocksOf (h .layout)) (blocksOf (j .layout)) → tapeCells s t ≡ tapeCells s u
+unfolding tapeCells
+cells-any-order t u s h j z e =
+    ext-getD 0 (loadRecords s (recordsOf t)) (loadRecords s (recordsOf u)) (size-loaded s (h .layout) z ∙ sym (size-loaded s (j .layout) z))
+    (λ i l. same-cell e (cells-loaded s (h .layout) z (h .once) i) (cells-loaded s (j .layout) z (j .once) i))
 
 pub any-order : AnyOrder
-unfolding loading judgeLoad
-any-order t u s c d h k e = at (judgeStore s)
+unfolding judgeLoad
+any-order k t u s c d h j e = rw (called-is k t s c, called-is k u s d) (at (judgeStore s))
   where
-    cells : loadRecords s (recordsOf t) ≡ loadRecords s (recordsOf u)
-    cells =
-        ext-getD 0 (loadRecords s (recordsOf t)) (loadRecords s (recordsOf u)) (size-loaded s (h .layout) refl ∙ sym (size-loaded s (k .layout) refl))
-        (λ i l. same-cell e (cells-loaded s (h .layout) refl (h .once) i) (cells-loaded s (k .layout) refl (k .once) i))
-
-    at : (v : Verdict) → loadedBy (judgeThen v (judgeTape (length s) t)) t s c .cells ≡ loadedBy (judgeThen v (judgeTape (length s) u)) u s d .cells
+    at : (v : Verdict) → loadedBy (judgeThen v (judgeTape (length s) t)) t (under k s) s c .cells ≡ loadedBy (judgeThen v (judgeTape (length s) u)) u (under k s) s d .cells
     at (Rejected q) = refl
-    at Accepted = rw (accepted-tapes (length s) t .1 h, accepted-tapes (length s) u .1 k) cells
+    at Accepted = rw (accepted-tapes (length s) t .1 h, accepted-tapes (length s) u .1 j) (cells-any-order t u (under k s) h j (size-under k s) e)
 
 pub accepted-in-any-order : AcceptedInAnyOrder
 accepted-in-any-order n t u h r l p = accepted-tapes n u .1 (record { size = l; layout = r; once = once-order p (h .once) })
 
 pub kept-size : KeptSize
-unfolding loading
-kept-size t s c = at (judgeLoad t s) refl
+kept-size k t s c = rw (called-is k t s c) (at (judgeLoad t s) refl)
   where
-    at : (v : Verdict) → judgeLoad t s ≡ v → length (loadedBy v t s c .cells) ≡ length s
+    at : (v : Verdict) → judgeLoad t s ≡ v → length (loadedBy v t (under k s) s c .cells) ≡ length s
     at (Rejected q) e = refl
-    at Accepted e = size-loaded s (load-judged t s e .1 .layout) refl
+    at Accepted e = over t (under k s) s c (load-judged t s e .1) (size-under k s) .size
 
 pub kept-all : KeptAll
-unfolding loading
-kept-all t s c q = at (judgeLoad t s)
+kept-all k t s c q = rw (called-is k t s c) (at (judgeLoad t s))
   where
-    at : (v : Verdict) → loadedBy v t s c .state .verdict ≡ Rejected q → (loadedBy v t s c .cells ≡ s) × (loadedBy v t s c .state .control ≡ c)
+    at : (v : Verdict) → loadedBy v t (under k s) s c .state .verdict ≡ Rejected q → (loadedBy v t (under k s) s c .cells ≡ s) × (loadedBy v t (under k s) s c .state .control ≡ c)
     at (Rejected p) h = (refl, refl)
     at Accepted h = refused (sym h)
 
@@ -107,22 +134,78 @@ store-fits s e =
     let a = passed (sizeFits (length s)) (cond (cellsFit s) Accepted (Rejected CellValue)) StoreSize e in
     (a .0, passed (cellsFit s) Accepted CellValue (a .1) .0)
 
-machine-fits : (t s : List ℕ) → judgeLoad t s ≡ Accepted → judgeMachine (loadRecords s (recordsOf t)) (loadedControl t) ≡ Accepted
-unfolding judgeMachine loadedControl
-machine-fits t s e =
+fit-zeros : (n : ℕ) → cellsFit (replicate n 0) ≡ true
+unfolding cellsFit
+fit-zeros zero = refl
+fit-zeros (suc n) = fit-zeros n
+
+fit-under : (k : Call) (s : List ℕ) → cellsFit s ≡ true → cellsFit (under k s) ≡ true
+unfolding under cleared
+fit-under load s e = fit-zeros (length s)
+fit-under overlay s e = e
+
+machine-fits : (k : Call) (t s : List ℕ) → judgeLoad t s ≡ Accepted → judgeMachine (tapeCells (under k s) t) (loadedControl t) ≡ Accepted
+unfolding judgeMachine loadedControl tapeCells
+machine-fits k t s e =
     let j = load-judged t s e in
     let r = j .1 .layout in
     let f = store-fits s (j .0) in
-    rw (size-loaded s r refl, f .0, cells-fit s r (f .1), control-is r, control-payload-good r .fields)
+    let z = size-under k s in
+    rw (size-loaded (under k s) r z, ← z, f .0, cells-fit (under k s) r (fit-under k s (f .1)), control-is r, control-payload-good r .fields)
 
 pub loaded-machines : LoadedMachines
-unfolding loading
-loaded-machines t s c = at (judgeLoad t s) refl
+loaded-machines k t s c = rw (called-is k t s c) (at (judgeLoad t s) refl)
   where
-    at : (v : Verdict) → judgeLoad t s ≡ v → loadedBy v t s c .state .verdict ≡ Accepted
-        → judgeMachine (loadedBy v t s c .cells) (loadedBy v t s c .state .control) ≡ Accepted
+    at : (v : Verdict) → judgeLoad t s ≡ v → loadedBy v t (under k s) s c .state .verdict ≡ Accepted
+        → judgeMachine (loadedBy v t (under k s) s c .cells) (loadedBy v t (under k s) s c .state .control) ≡ Accepted
     at (Rejected q) e h = refused h
-    at Accepted e h = machine-fits t s e
+    at Accepted e h = machine-fits k t s e
+
+-- ---- stores of one size
+
+judge-same : (t s u : List ℕ) → length s ≡ length u → cellsFit s ≡ true → cellsFit u ≡ true → judgeLoad t s ≡ judgeLoad t u
+unfolding judgeLoad judgeStore
+judge-same t s u l e f = rw (e, f, l)
+
+pub same-machine : SameMachine
+unfolding loading
+same-machine t s u c d l = at (judgeLoad t s) refl
+  where
+    at : (v : Verdict) → judgeLoad t s ≡ v → loadedBy v t (cleared (length s)) s c .state .verdict ≡ Accepted → cellsFit u ≡ true
+        → loadedBy v t (cleared (length s)) s c ≡ loadedBy (judgeLoad t u) t (cleared (length u)) u d
+    at (Rejected q) e h f = refused h
+    at Accepted e h f = rw (sym (judge-same t s u l (store-fits s (load-judged t s e .0) .1) f) ∙ e, l)
+
+-- the tape into the cells s, and over n cells of zero
+onto-zeros : (v : Verdict) (t s : List ℕ) (c : Control) (n : ℕ)
+    → let x = loadedBy v t (cleared n) s c in
+    let y = loadedBy v t (replicate n 0) (replicate n 0) c in
+    (x .state ≡ y .state) × (x .state .verdict ≡ Accepted → x .cells ≡ y .cells)
+unfolding cleared
+onto-zeros (Rejected q) t s c n = (refl, λ h. refused h)
+onto-zeros Accepted t s c n = (refl, λ h. refl)
+
+pub load-is-overlay : LoadIsOverlay
+unfolding loading overlaying
+load-is-overlay t s c e =
+    let n = length s in
+    rw (← judge-same t s (replicate n 0) (sym (length-replicate {A = ℕ} n 0)) e (fit-zeros n)) (onto-zeros (judgeLoad t s) t s c n)
+
+machine-store : (s : List ℕ) (c : Control) → judgeMachine s c ≡ Accepted → judgeStore s ≡ Accepted
+unfolding judgeMachine judgeStore
+machine-store s c e =
+    let a = passed (sizeFits (length s)) _ StoreSize e in
+    rw (a .0, passed (cellsFit s) _ CellValue (a .1) .0)
+
+pub border-over-ground : BorderOverGround
+unfolding under
+border-over-ground t u s c e h k =
+    let x = loading t s c in
+    let g = loads-layout load t s c e h in
+    let a = load-accepted u (x .cells) (machine-store (x .cells) (x .state .control) (loaded-machines load t s c (g .accepted))) k (sym (g .size)) in
+    let y = over u (x .cells) (x .cells) (x .state .control) k (sym (g .size)) in
+    rw (called-is overlay u (x .cells) (x .state .control), a)
+    (record { accepted = y .accepted; size = y .size; cells = λ i. record { below = getD (x .cells) i 0; by-ground = g .cells i; by-border = y .cells i }; control = y .control })
 
 -- ---- the reader of the first remark
 

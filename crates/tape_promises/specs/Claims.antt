@@ -4,7 +4,7 @@ use Prim.Native.Nat.{ℕ, _-_, _≤_, _<_}
 use mathlib.Core.Path.{_≡_}
 use mathlib.Core.Bool.{true, false}
 use mathlib.Core.List.{List, []}
-use lib.ListN.{length, take, drop, getD}
+use lib.ListN.{length, take, drop, getD, replicate}
 use Rattle.machine.specs.Answers.{refusalNumber}
 use Rattle.machine.specs.declared.Control.{Control}
 use Rattle.machine.specs.declared.Refusal.{Refusal}
@@ -13,13 +13,13 @@ use Rattle.acceptance.specs.Accept.{sizeFits, cellsFit, judgeStore, judgeMachin
 use Rattle.definition_tape.specs.Layout.{recordsOf, NamesCell}
 use Rattle.definition_tape.specs.Blocks.{Named}
 use Rattle.definition_tape.specs.Judge.{judgeTape}
-use Rattle.definition_tape.specs.Load.{Loaded, judgeLoad, loading}
+use Rattle.definition_tape.specs.Load.{Loaded, judgeLoad, loading, overlaying}
 use Rattle.definition_tape.specs.Remark.{judgeReading, remarkSpan, remarkText}
 use Rattle.tape_promises.specs.Grammar.{Records, blocksOf, TapeFor}
-use Rattle.tape_promises.specs.Contents.{Holds, SameBlocks, Permutation, controlPayload, ControlFields, firstRemark, spanOf, remarkBytes}
+use Rattle.tape_promises.specs.Contents.{Holds, HoldsOver, SameBlocks, Permutation, controlPayload, ControlFields, firstRemark, spanOf, remarkBytes}
 use Rattle.tape_promises.specs.Numbers.{TapeRefused, LoadRefused, ReadingRefused}
 
--- ---- which tapes are accepted, and what they load
+-- ---- which tapes are accepted
 
 -- a tape is accepted exactly if it is a row of good records with one control record and the end, and names no cell twice
 abbrev pub AcceptedTapes : Type 0
@@ -30,28 +30,69 @@ abbrev pub NoCellTwice : Type 0
 NoCellTwice =
     (n : ℕ) (t : List ℕ) → judgeTape n t ≡ Accepted → (j k i : ℕ) → j < k → NamesCell (getD (recordsOf t) j []) i → NamesCell (getD (recordsOf t) k []) i → ⊥
 
--- the records r are loaded into a store of the cells s
-pub record LoadedFrom {n : ℕ} {t : List ℕ} (r : Records n t) (s : List ℕ) (x : Loaded) : Type 0 where
+-- ---- load and overlay (document 02, E5)
+
+pub data Call : Type 0 where
+  load : Call
+  overlay : Call
+
+-- the tape t into a store of the cells s, with the control record c
+abbrev pub called : Call → List ℕ → List ℕ → Control → Loaded
+called load t s c = loading t s c
+called overlay t s c = overlaying t s c
+
+-- what the cell i, where no block names it, holds after the call: a load clears it, word and key, an overlay keeps it
+abbrev pub unnamedCell : Call → List ℕ → ℕ → ℕ
+unnamedCell load s i = 0
+unnamedCell overlay s i = getD s i 0
+
+-- x is a store of n cells with the blocks and the control record of the records r; a cell i that no block names holds `held i`
+pub record LoadedFrom {n : ℕ} {t : List ℕ} (r : Records n t) (held : ℕ → ℕ) (x : Loaded) : Type 0 where
   pub accepted : x .state .verdict ≡ Accepted
-  pub size : length (x .cells) ≡ length s
-  pub cells : (i : ℕ) → Holds i (getD s i 0) (blocksOf r) (getD (x .cells) i 0)
+  pub size : length (x .cells) ≡ n
+  pub cells : (i : ℕ) → Holds i (held i) (blocksOf r) (getD (x .cells) i 0)
   pub control : ControlFields (controlPayload r) (x .state .control)
 
 -- a tape loads exactly what the layout says
 abbrev pub LoadsLayout : Type 0
-LoadsLayout = (t s : List ℕ) (c : Control) → judgeStore s ≡ Accepted → (h : TapeFor (length s) t) → LoadedFrom (h .layout) s (loading t s c)
+LoadsLayout =
+    (k : Call) (t s : List ℕ) (c : Control) → judgeStore s ≡ Accepted → (h : TapeFor (length s) t) → LoadedFrom (h .layout) (unnamedCell k s) (called k t s c)
 
--- cells that no block names keep what they held
-abbrev pub KeptCells : Type 0
-KeptCells =
-    (t s : List ℕ) (c : Control) (h : TapeFor (length s) t) (i : ℕ) → (Named i (blocksOf (h .layout)) → ⊥)
-    → getD (loading t s c .cells) i 0 ≡ getD s i 0
+-- of the cells that no block names, a load keeps nothing and an overlay all
+abbrev pub UnnamedCells : Type 0
+UnnamedCells =
+    (k : Call) (t s : List ℕ) (c : Control) → judgeStore s ≡ Accepted → (h : TapeFor (length s) t) (i : ℕ) → (Named i (blocksOf (h .layout)) → ⊥)
+    → getD (called k t s c .cells) i 0 ≡ unnamedCell k s i
+
+-- after a load the machine depends on the tape and the number of cells alone: it is the same for two stores of one size, whatever they held
+abbrev pub SameMachine : Type 0
+SameMachine = (t s u : List ℕ) (c d : Control) → length s ≡ length u → loading t s c .state .verdict ≡ Accepted → cellsFit u ≡ true → loading t s c ≡ loading t u d
+
+-- a load gives what an overlay gives onto a store of as many cells of zero
+abbrev pub LoadIsOverlay : Type 0
+LoadIsOverlay =
+    (t s : List ℕ) (c : Control) → cellsFit s ≡ true
+    → let over = overlaying t (replicate (length s) 0) c in
+    (loading t s c .state ≡ over .state) × (loading t s c .state .verdict ≡ Accepted → loading t s c .cells ≡ over .cells)
+
+-- x is a store of n cells with the blocks of a border tape over those of a ground tape, and the border tape's control record
+pub record OverlaidFrom {n : ℕ} {t u : List ℕ} (ground : Records n t) (border : Records n u) (x : Loaded) : Type 0 where
+  pub accepted : x .state .verdict ≡ Accepted
+  pub size : length (x .cells) ≡ n
+  pub cells : (i : ℕ) → HoldsOver i (blocksOf ground) (blocksOf border) (getD (x .cells) i 0)
+  pub control : ControlFields (controlPayload border) (x .state .control)
+
+-- the load of a ground tape, then the overlay of a border tape: what the second's blocks over the first's say
+abbrev pub BorderOverGround : Type 0
+BorderOverGround =
+    (t u s : List ℕ) (c : Control) → judgeStore s ≡ Accepted → (ground : TapeFor (length s) t) (border : TapeFor (length s) u)
+    → let x = loading t s c in OverlaidFrom (ground .layout) (border .layout) (overlaying u (x .cells) (x .state .control))
 
 -- the order of the blocks does not matter: two accepted tapes with the same blocks load the same cells
 abbrev pub AnyOrder : Type 0
 AnyOrder =
-    (t u s : List ℕ) (c d : Control) (h : TapeFor (length s) t) (k : TapeFor (length s) u) → SameBlocks (blocksOf (h .layout)) (blocksOf (k .layout))
-    → loading t s c .cells ≡ loading u s d .cells
+    (k : Call) (t u s : List ℕ) (c d : Control) (h : TapeFor (length s) t) (j : TapeFor (length s) u) → SameBlocks (blocksOf (h .layout)) (blocksOf (j .layout))
+    → called k t s c .cells ≡ called k u s d .cells
 
 -- nor for the judge: a tape of at most 65,536 bytes with the blocks of an accepted one in another order is accepted
 abbrev pub AcceptedInAnyOrder : Type 0
@@ -60,16 +101,19 @@ AcceptedInAnyOrder =
 
 -- the store keeps its number of cells
 abbrev pub KeptSize : Type 0
-KeptSize = (t s : List ℕ) (c : Control) → length (loading t s c .cells) ≡ length s
+KeptSize = (k : Call) (t s : List ℕ) (c : Control) → length (called k t s c .cells) ≡ length s
 
 -- a refusal changes nothing
 abbrev pub KeptAll : Type 0
-KeptAll = (t s : List ℕ) (c : Control) (q : Refusal) → loading t s c .state .verdict ≡ Rejected q → (loading t s c .cells ≡ s) × (loading t s c .state .control ≡ c)
+KeptAll =
+    (k : Call) (t s : List ℕ) (c : Control) (q : Refusal) → called k t s c .state .verdict ≡ Rejected q
+    → (called k t s c .cells ≡ s) × (called k t s c .state .control ≡ c)
 
 -- the machine that an accepted tape loads is accepted
 abbrev pub LoadedMachines : Type 0
 LoadedMachines =
-    (t s : List ℕ) (c : Control) → loading t s c .state .verdict ≡ Accepted → judgeMachine (loading t s c .cells) (loading t s c .state .control) ≡ Accepted
+    (k : Call) (t s : List ℕ) (c : Control) → called k t s c .state .verdict ≡ Accepted
+    → judgeMachine (called k t s c .cells) (called k t s c .state .control) ≡ Accepted
 
 -- ---- the reader of the first remark
 
@@ -99,11 +143,11 @@ abbrev pub TapeNumbers : Type 0
 TapeNumbers =
     (n : ℕ) (t : List ℕ) (q : Refusal) → (judgeTape n t ≡ Rejected q → TapeRefused n t (refusalNumber q)) × (TapeRefused n t (refusalNumber q) → judgeTape n t ≡ Rejected q)
 
--- so is a load
+-- so are a load and an overlay
 abbrev pub LoadNumbers : Type 0
 LoadNumbers =
-    (t s : List ℕ) (c : Control) (q : Refusal)
-    → (loading t s c .state .verdict ≡ Rejected q → LoadRefused s t (refusalNumber q)) × (LoadRefused s t (refusalNumber q) → loading t s c .state .verdict ≡ Rejected q)
+    (k : Call) (t s : List ℕ) (c : Control) (q : Refusal)
+    → (called k t s c .state .verdict ≡ Rejected q → LoadRefused s t (refusalNumber q)) × (LoadRefused s t (refusalNumber q) → called k t s c .state .verdict ≡ Rejected q)
 
 -- and the reading of the first remark; no remark is shown then
 abbrev pub ReadingNumbers : Type 0

@@ -30,6 +30,12 @@ pub data Holds (i held : ℕ) (bs : List Block) : ℕ → Type 0 where
   written : (b : Block) → TheOne bs i b → Holds i held bs (getD (b .cells) (i - b .first) 0)
   kept : (Named i bs → ⊥) → Holds i held bs held
 
+-- the cell i holds x after the blocks of a border tape over those of a ground tape over zero (document 02, E5)
+pub record HoldsOver (i : ℕ) (ground border : List Block) (x : ℕ) : Type 0 where
+  pub below : ℕ
+  pub by-ground : Holds i 0 ground below
+  pub by-border : Holds i below border x
+
 -- the same blocks, in whatever order
 abbrev pub SameBlocks : List Block → List Block → Type 0
 SameBlocks bs cs = (b : Block) → (Among b bs → Among b cs) × (Among b cs → Among b bs)

@@ -70,7 +70,7 @@ TapeRefused n t = Test 12 (65536 < length t) (RecordsRefused n false [] t)
 abbrev pub SizeRefused : ℕ → Type 0
 SizeRefused n = (n < 8) ⊎ (8388608 < n)
 
--- loading tests 1 and 2, then the tape
+-- loading and overlaying test 1 and 2, then the tape
 abbrev pub LoadRefused : List ℕ → List ℕ → ℕ → Type 0
 LoadRefused s t = Test 1 (SizeRefused (length s)) (Test 2 (cellsFit s ≡ false) (TapeRefused (length s) t))
 

@@ -7,7 +7,7 @@ use native.Mathlib.Omega.{arith}
 use mathlib.Core.Option.{Option, none, some}
 use mathlib.Core.List.{List, [], _∷_}
 use borrow.Author.Tests.{leb-true, le-leb}
-use lib.ListN.{length, drop, replicate, length-replicate, length-append, length-drop}
+use lib.ListN.{length, drop, length-append, length-drop}
 use lib.Dec.{leb}
 use store.Seg.{take-pre, drop-pre}
 use Rattle.machine.specs.declared.Control.{Control}
@@ -16,7 +16,7 @@ use Rattle.machine.specs.declared.Refusal.the-variants.{StoreSize, CellValue, C
 use Rattle.machine.specs.declared.Verdict.{Verdict}
 use Rattle.machine.specs.declared.Verdict.the-variants.{Accepted, Rejected}
 use Rattle.acceptance.specs.Accept.{sizeFits, cellsFit, controlFits, judgeStore, judgeMachine}
-use Rattle.definition_tape.specs.Load.{Loaded, judgeThen, judgeLoad, loading}
+use Rattle.definition_tape.specs.Load.{Loaded, tapeCells, judgeThen, judgeLoad, cleared, loading}
 use Rattle.definition_tape.specs.Remark.{judgeReading, remarkSpan, remarkText}
 use Rattle.acceptance.proofs.Tests.{passed}
 use Rattle.definition_tape.proofs.Judged.{passed-then}
@@ -80,16 +80,9 @@ good-tape s c m w =
     let r = tape-grammar s c m (h .size) (h .cells) (h .control) (w .remark) in
     accepted-tapes (length s) (tapeOf s c m) .1 (record { size = w .size; layout = r; once = once-blocks r (tape-once s c m w) })
 
-fit-zeros : (n : ℕ) → cellsFit (replicate n 0) ≡ true
-unfolding cellsFit
-fit-zeros zero = refl
-fit-zeros (suc n) = fit-zeros n
-
-load-accepted : (s : List ℕ) (c : Control) (m : Option (List ℕ)) → Writable s c m → judgeLoad (tapeOf s c m) (replicate (length s) 0) ≡ Accepted
+load-accepted : (s u : List ℕ) (c : Control) (m : Option (List ℕ)) → Writable s c m → length u ≡ length s → cellsFit u ≡ true → judgeLoad (tapeOf s c m) u ≡ Accepted
 unfolding judgeLoad judgeStore
-load-accepted s c m w =
-    let h = machine s c (w .machine) in
-    rw (length-replicate {A = ℕ} (length s) 0, h .fits, fit-zeros (length s)) (good-tape s c m w)
+load-accepted s u c m w l f = let h = machine s c (w .machine) in rw (l, h .fits, f) (good-tape s c m w)
 
 reading-accepted : (s : List ℕ) (c : Control) (m : Option (List ℕ)) → Writable s c m → judgeReading (tapeOf s c m) (length s) ≡ Accepted
 unfolding judgeReading
@@ -97,13 +90,14 @@ reading-accepted s c m w = let h = machine s c (w .machine) in rw (h .fits) (goo
 
 -- ---- there and back
 
-pub same-machine : (s : List ℕ) (c d : Control) (m : Option (List ℕ)) → Writable s c m
-    → loading (tapeOf s c m) (replicate (length s) 0) d ≡ record { cells = s; state = record { control = c; verdict = Accepted } }
-unfolding loading
-same-machine s c d m w =
+pub same-machine : (s u : List ℕ) (c d : Control) (m : Option (List ℕ)) → Writable s c m → length u ≡ length s → cellsFit u ≡ true
+    → loading (tapeOf s c m) u d ≡ record { cells = s; state = record { control = c; verdict = Accepted } }
+unfolding loading cleared tapeCells
+same-machine s u c d m w l f =
     let h = machine s c (w .machine) in
     rw (
-      load-accepted s c m w,
+      load-accepted s u c m w l f,
+      l,
       load-tape s c m (h .size) (h .cells) (h .control) (w .remark),
       tape-control s c m (h .size) (h .cells) (h .control) (w .remark),
     )
@@ -116,12 +110,9 @@ same-remark s c m w =
     rw (reading-accepted s c m w) (tape-remark s c m (h .size) (h .cells) (w .remark))
 
 pub round-trip : RoundTrip
-round-trip s c d m w = (same-machine s c d m w, same-remark s c m w)
+round-trip s u c d m w l f = (same-machine s u c d m w l f, same-remark s c m w)
 
 -- ---- equal tapes
-
-abbrev loadedOf : ℕ → Control → List ℕ → Loaded
-loadedOf n d t = loading t (replicate n 0) d
 
 abbrev remarkIn : ℕ → List ℕ → Option (List ℕ)
 remarkIn n t = remarkOf (remarkSpan t n .found) (remarkText t n)
@@ -129,9 +120,10 @@ remarkIn n t = remarkOf (remarkSpan t n .found) (remarkText t n)
 pub equal-tapes : EqualTapes
 equal-tapes s₁ s₂ c₁ c₂ m₁ m₂ l w₁ w₂ = (
   λ e.
-      let x : loadedOf (length s₁) c₁ (tapeOf s₂ c₂ m₂) ≡ record { cells = s₂; state = record { control = c₂; verdict = Accepted } } = rw l (same-machine s₂ c₂ c₁ m₂ w₂) in
+      let f = machine s₁ c₁ (w₁ .machine) .cells in
+      let x = same-machine s₂ s₁ c₂ c₁ m₂ w₂ l f in
       let y : remarkIn (length s₁) (tapeOf s₂ c₂ m₂) ≡ m₂ = rw l (same-remark s₂ c₂ m₂ w₂) in
-      let a = sym (same-machine s₁ c₁ c₁ m₁ w₁) ∙ ap (loadedOf (length s₁) c₁) e ∙ x in
+      let a = sym (same-machine s₁ s₁ c₁ c₁ m₁ w₁ refl f) ∙ ap (λ (t : List ℕ). loading t s₁ c₁) e ∙ x in
       let b = sym (same-remark s₁ c₁ m₁ w₁) ∙ ap (remarkIn (length s₁)) e ∙ y in
       (ap (λ (r : Loaded). r .cells) a, ap (λ (r : Loaded). r .state .control) a, b),
   λ h. rw (h .0, h .1, h .2),

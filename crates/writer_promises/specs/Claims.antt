@@ -5,7 +5,7 @@ use mathlib.Core.Path.{_≡_}
 use mathlib.Core.Bool.{true, false, cond}
 use mathlib.Core.Option.{Option, none, some}
 use mathlib.Core.List.{List, [], _∷_, _++_, map}
-use lib.ListN.{length, getD, take, drop, replicate}
+use lib.ListN.{length, getD, take, drop}
 use lib.Dec.{eqb}
 use Rattle.machine.specs.declared.Control.{Control}
 use Rattle.machine.specs.Answers.{refusalNumber}
@@ -104,11 +104,11 @@ WrittenTapeLength = (s : List ℕ) (c : Control) (m : Option (List ℕ)) → len
 abbrev pub GoodTape : Type 0
 GoodTape = (s : List ℕ) (c : Control) (m : Option (List ℕ)) → Writable s c m → judgeTape (length s) (tapeOf s c m) ≡ Accepted
 
--- loading the tape into an all-zero store of equal size gives the same machine, and the reader gives the same remark, or none
+-- loading the tape into any store of equal size gives the same machine, and the reader gives the same remark, or none
 abbrev pub RoundTrip : Type 0
 RoundTrip =
-    (s : List ℕ) (c d : Control) (m : Option (List ℕ)) → Writable s c m
-    → (loading (tapeOf s c m) (replicate (length s) 0) d ≡ record { cells = s; state = record { control = c; verdict = Accepted } })
+    (s u : List ℕ) (c d : Control) (m : Option (List ℕ)) → Writable s c m → length u ≡ length s → cellsFit u ≡ true
+    → (loading (tapeOf s c m) u d ≡ record { cells = s; state = record { control = c; verdict = Accepted } })
     × (remarkOf (remarkSpan (tapeOf s c m) (length s) .found) (remarkText (tapeOf s c m) (length s)) ≡ m)
 
 -- two machines of one size and their remarks have equal tapes exactly when they are equal

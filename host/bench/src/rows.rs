@@ -113,7 +113,7 @@ const ONE: Blocks = Blocks {
     order: Order::Rising,
 };
 
-pub const ROWS: [Row; 18] = [
+pub const ROWS: [Row; 19] = [
     program("register loop", tape!("registers")),
     program("byte copy loop", tape!("bytes")),
     program("multiply loop (WM)", tape!("multiply")),
@@ -149,6 +149,7 @@ pub const ROWS: [Row; 18] = [
         many(Order::Mixed),
     ),
     loads("the same, 8,388,608 cells", 8_388_608, many(Order::Mixed)),
+    loads("load, 1,048,576 cells", 1_048_576, ONE),
 ];
 
 impl Blocks {

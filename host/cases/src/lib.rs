@@ -89,6 +89,7 @@ pub fn coverage(cases: &[Request]) -> Coverage {
         let case = Case {
             request: request.clone(),
             damages: Vec::new(),
+            second: None,
         };
         coverage.count(&case, &answer);
     }

@@ -40,6 +40,7 @@ fn the_lengths_in_the_input_make_up_the_whole() {
 fn is_left_out(name: &str) -> bool {
     let about_tapes = [
         "load refused",
+        "overlay refused",
         "remark",
         "no remark",
         "tape of",
@@ -53,7 +54,8 @@ fn is_left_out(name: &str) -> bool {
     let damaged = compare::DAMAGES
         .iter()
         .any(|damage| format!("{damage:?}") == name);
-    let about_blocks = compare::BLOCK_EVENTS.contains(&name);
+    let about_blocks =
+        compare::BLOCK_EVENTS.contains(&name) || compare::LOAD_EVENTS.contains(&name);
     damaged
         || about_blocks
         || name == "largest store"

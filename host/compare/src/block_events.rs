@@ -3,6 +3,7 @@
 
 use crate::blocks::{blocks, first_overlap, overlap, overlaps_earlier, Block, Overlap};
 use crate::coverage::holding;
+use crate::loads::held;
 use emulation::{remark, Refusal, MAXIMUM_CELLS};
 use protocol::{Answer, Listed};
 use std::ops::Range;
@@ -36,8 +37,8 @@ pub const BLOCK_EVENTS: [&str; 25] = [
     "load: 17 behind a block that differs from the store",
 ];
 
-/// What a tape was about that was loaded into so many cells, or whose remark
-/// was read for so many.
+/// What a tape was about that was loaded into so many cells or laid over them, or
+/// whose remark was read for so many.
 pub fn block_events(cells: usize, tape: &[u8], answer: &Answer) -> Vec<&'static str> {
     let blocks = blocks(tape);
     let overlapping = first_overlap(&blocks);
@@ -74,14 +75,8 @@ pub fn load_events(store: &Listed, tape: &[u8], answer: &Answer) -> Vec<&'static
 }
 
 fn differs_from(block: &Block, store: &Listed) -> bool {
-    let held = |index| {
-        let place = store
-            .cells
-            .binary_search_by_key(&index, |&(index, _)| index);
-        place.map_or(0, |place| store.cells[place].1)
-    };
     let mut cells = block.cells.clone().zip(block.values());
-    cells.any(|(index, value)| value != held(index))
+    cells.any(|(index, value)| value != held(store, index))
 }
 
 fn taken_events(cells: usize, blocks: &[Block]) -> Vec<&'static str> {

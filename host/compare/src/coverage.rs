@@ -6,6 +6,8 @@
 use crate::block_events::{block_events, load_events, BLOCK_EVENTS};
 use crate::device_events::{key_events, run_events, DeviceInstruction, DEVICE_EVENTS};
 use crate::generator::Case;
+use crate::load_events::{cleared_events, kept_events, laid_events, LOAD_EVENTS};
+use crate::loads::Laid;
 use crate::stretch::Stretch;
 use crate::tapes::DAMAGES;
 use crate::words::WORD;
@@ -22,15 +24,18 @@ pub const MNEMONICS: [&str; 64] = [
     "FA", "FS", "FM", "KS", "FD", "CF", "DL", "DS", "AA", "SS", "58", "59", "60", "61", "62", "63",
 ];
 
-const CALLS: [&str; 7] = [
+const CALLS: [&str; 8] = [
     "run",
     "reset key",
     "start key",
     "autoload key",
     "load",
+    "overlay",
     "remark",
     "write",
 ];
+/// Those of them that put a tape into a store.
+const LOADS: [usize; 2] = [4, 5];
 const MODES: [&str; 4] = ["X+D", "(X+D)", "X+IC+D", "(X+IC+D)"];
 
 /// The floating-point instructions: CI FA FS FM FD CF.
@@ -66,6 +71,8 @@ pub struct Coverage {
     lines: BTreeMap<u32, u64>,
     floats: BTreeMap<(u32, usize), u64>,
     answers: BTreeMap<(usize, u32), u64>,
+    /// The same where every cell of the store is in use.
+    answers_in_use: BTreeMap<(usize, u32), u64>,
     damages: BTreeMap<usize, u64>,
     events: BTreeMap<&'static str, u64>,
 }
@@ -103,8 +110,12 @@ const EVENTS: [&str; 28] = [
 ];
 
 fn all_events() -> impl Iterator<Item = &'static str> {
-    let others = DEVICE_EVENTS.into_iter().chain(WRITE_EVENTS);
-    EVENTS.into_iter().chain(others).chain(BLOCK_EVENTS)
+    let devices_and_tapes = DEVICE_EVENTS
+        .into_iter()
+        .chain(WRITE_EVENTS)
+        .chain(BLOCK_EVENTS)
+        .chain(LOAD_EVENTS);
+    EVENTS.into_iter().chain(devices_and_tapes)
 }
 
 /// The names whose condition holds.
@@ -157,11 +168,21 @@ impl Coverage {
             Request::Load { store, tape } => {
                 self.count_tape(store.size, tape, answer);
                 self.events(load_events(store, tape, answer));
+                self.events(cleared_events(store, tape, answer));
+            }
+            Request::Overlay { store, tape } => {
+                self.count_tape(store.size, tape, answer);
+                self.events(kept_events(store, tape, answer));
             }
             Request::Remark { cells, tape } => self.count_tape(*cells, tape, answer),
             Request::Write(write) => self.events(write_events(write, answer)),
             _ => (),
         }
+    }
+
+    /// Counts a tape that was laid over what a load left.
+    pub fn count_laid(&mut self, laid: &Laid, answer: &Answer) {
+        self.events(laid_events(laid, answer));
     }
 
     fn event(&mut self, name: &'static str) {
@@ -192,14 +213,20 @@ impl Coverage {
             Request::PressStart { .. } => 2,
             Request::PressAutoload { .. } => 3,
             Request::Load { .. } => 4,
-            Request::Remark { .. } => 5,
-            Request::Write(_) => 6,
+            Request::Overlay { .. } => 5,
+            Request::Remark { .. } => 6,
+            Request::Write(_) => 7,
         };
         let number = match answer {
             Answer::Refused(refusal) => refusal.number(),
             _ => 0,
         };
         add(&mut self.answers, (call, number));
+        if let Request::Load { store, .. } | Request::Overlay { store, .. } = request {
+            if store.cells.iter().filter(|cell| cell.1 != 0).count() == store.size {
+                add(&mut self.answers_in_use, (call, number));
+            }
+        }
         if let Answer::Remark(text) = answer {
             match text {
                 None => self.event("no remark"),
@@ -348,12 +375,13 @@ impl Coverage {
 
     /// How many machines were written.
     pub fn written(&self) -> u64 {
-        times(&self.answers, (6, 0))
+        times(&self.answers, (7, 0))
     }
 
     /// How many tapes were refused for overlapping blocks.
     pub fn overlapping(&self) -> u64 {
-        times(&self.answers, (4, 17)) + times(&self.answers, (5, 17))
+        let calls = [4, 5, 6].map(|call| times(&self.answers, (call, 17)));
+        calls.iter().sum()
     }
 
     /// What no case was about.
@@ -402,13 +430,20 @@ impl Coverage {
     }
 
     fn missing_answers(&self) -> Vec<String> {
-        let answers = EXPECTED_ANSWERS
-            .iter()
-            .enumerate()
-            .flat_map(|(call, numbers)| numbers.iter().map(move |&number| (call, number)));
-        absent(answers, &self.answers, |(call, number)| {
+        let of = |call: usize| {
+            EXPECTED_ANSWERS[call]
+                .iter()
+                .map(move |&number| (call, number))
+        };
+        let answers = (0..CALLS.len()).flat_map(of);
+        let mut missing = absent(answers, &self.answers, |(call, number)| {
             format!("{} refused {number}", CALLS[call])
-        })
+        });
+        let in_use = LOADS.into_iter().flat_map(of);
+        missing.extend(absent(in_use, &self.answers_in_use, |(call, number)| {
+            format!("{} refused {number}, every cell in use", CALLS[call])
+        }));
+        missing
     }
 }
 
@@ -425,11 +460,12 @@ fn absent<K: Ord + Copy>(
 }
 
 /// The refusals that each call can give; 0 stands for none.
-const EXPECTED_ANSWERS: [&[u32]; 7] = [
+const EXPECTED_ANSWERS: [&[u32]; 8] = [
     &[0, 1, 2, 3, 4, 5, 13],
     &[0, 1, 2, 3],
     &[0, 1, 2, 3],
     &[0, 1, 2, 3, 13],
+    &[0, 1, 2, 3, 6, 7, 8, 9, 10, 11, 12, 17],
     &[0, 1, 2, 3, 6, 7, 8, 9, 10, 11, 12, 17],
     &[0, 1, 3, 6, 7, 8, 9, 10, 11, 12, 17],
     &[0, 1, 2, 3, 14, 15, 16],
@@ -513,6 +549,22 @@ fn times<K: Ord>(counts: &BTreeMap<K, u64>, key: K) -> u64 {
     counts.get(&key).copied().unwrap_or(0)
 }
 
+/// Writes how often a call was done and was refused with each number.
+fn write_counts(
+    formatter: &mut fmt::Formatter,
+    name: &str,
+    call: usize,
+    answers: &BTreeMap<(usize, u32), u64>,
+) -> fmt::Result {
+    write!(formatter, "  {name}: done {}", times(answers, (call, 0)))?;
+    for number in 1..=17 {
+        if let Some(times) = answers.get(&(call, number)) {
+            write!(formatter, ", refused {number} {times}")?;
+        }
+    }
+    writeln!(formatter)
+}
+
 impl Coverage {
     fn write_instructions(&self, formatter: &mut fmt::Formatter) -> fmt::Result {
         writeln!(formatter, "instructions, executed / excepting:")?;
@@ -542,17 +594,11 @@ impl Coverage {
     fn write_answers(&self, formatter: &mut fmt::Formatter) -> fmt::Result {
         writeln!(formatter, "answers of each call:")?;
         for (call, name) in CALLS.iter().enumerate() {
-            write!(
-                formatter,
-                "  {name}: done {}",
-                times(&self.answers, (call, 0))
-            )?;
-            for number in 1..=17 {
-                if let Some(times) = self.answers.get(&(call, number)) {
-                    write!(formatter, ", refused {number} {times}")?;
-                }
-            }
-            writeln!(formatter)?;
+            write_counts(formatter, name, call, &self.answers)?;
+        }
+        writeln!(formatter, "the same, every cell in use:")?;
+        for call in LOADS {
+            write_counts(formatter, CALLS[call], call, &self.answers_in_use)?;
         }
         writeln!(formatter, "damages of tapes:")?;
         for (place, damage) in DAMAGES.iter().enumerate() {

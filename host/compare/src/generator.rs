@@ -14,6 +14,8 @@ pub struct Case {
     pub request: Request,
     /// How its tape was damaged.
     pub damages: Vec<Damage>,
+    /// A tape to be laid over what a load leaves.
+    pub second: Option<Vec<u8>>,
 }
 
 /// The case that a seed and a number determine.
@@ -37,6 +39,7 @@ fn without_tape(request: Request) -> Case {
     Case {
         request,
         damages: Vec::new(),
+        second: None,
     }
 }
 
@@ -133,21 +136,42 @@ fn key(random: &mut Random, reset: bool) -> Request {
     }
 }
 
-fn load(random: &mut Random) -> Case {
+/// A machine to load a tape into; in one of two every cell is in use.
+fn image_for_tape(random: &mut Random) -> Image {
     let mut image = machines::image(random);
-    let (tape, damages) = tapes::tape(random, image.size);
+    if random.one_in(2) {
+        if random.one_in(200) {
+            image.size = 65_536 + random.below(3000) as usize;
+        }
+        machines::fill(random, &mut image);
+    }
+    image
+}
+
+/// A load, with a second tape in one of two, or an overlay.
+fn load(random: &mut Random) -> Case {
+    let mut image = image_for_tape(random);
+    let size = image.size;
+    let (tape, damages) = tapes::tape(random, size);
     for number in refusals(random, 2) {
         match number {
             1 => refuse_size(random, &mut image),
             _ => refuse_cell(random, &mut image),
         }
     }
+    let store = image.listed();
+    if random.one_in(3) {
+        return Case {
+            request: Request::Overlay { store, tape },
+            damages,
+            second: None,
+        };
+    }
+    let with_second = random.one_in(2);
     Case {
-        request: Request::Load {
-            store: image.listed(),
-            tape,
-        },
+        request: Request::Load { store, tape },
         damages,
+        second: with_second.then(|| tapes::tape(random, size).0),
     }
 }
 
@@ -165,6 +189,7 @@ fn remark(random: &mut Random) -> Case {
     Case {
         request: Request::Remark { cells, tape },
         damages,
+        second: None,
     }
 }
 

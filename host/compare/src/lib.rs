@@ -9,6 +9,8 @@ mod coverage;
 mod device_events;
 mod generator;
 mod lent;
+mod load_events;
+mod loads;
 mod machines;
 mod random;
 mod stretch;
@@ -21,11 +23,13 @@ pub use block_events::BLOCK_EVENTS;
 pub use blocks::{blocks, first_overlap, overlap, overlaps_earlier, Block, Overlap};
 pub use coverage::{Coverage, MNEMONICS};
 pub use generator::{case, Case};
+pub use load_events::LOAD_EVENTS;
 pub use tapes::{Damage, DAMAGES};
 pub use words::{assemble, WORD};
 pub use writes::LAST_RECORDS;
 
-use protocol::{Answer, FrontEnd, Listed, Machine, Request, Write};
+use loads::{done_again, zeros, Laid};
+use protocol::{Answer, FrontEnd, Machine, Request, Write};
 use std::fmt;
 
 /// The first request that two machines answer differently, or both with what
@@ -37,7 +41,7 @@ pub struct Difference {
     pub request: Request,
     /// What the machine under test answers.
     pub tested: Answer,
-    /// What the machine it is measured by answers, or what a written tape gives.
+    /// What the machine it is measured by answers, or what must be answered.
     pub expected: Answer,
 }
 
@@ -52,7 +56,8 @@ impl fmt::Display for Difference {
 
 /// Asks both machines the first `count` cases of `seed`, up to the first
 /// difference. What the cases were about is counted in `coverage`. A written
-/// tape is loaded again by both.
+/// tape is loaded again by both; of a load or overlay that was done both must
+/// leave what the blocks of the tape say.
 pub fn compare(
     tested: impl Machine,
     expected: impl Machine,
@@ -60,39 +65,71 @@ pub fn compare(
     count: u64,
     coverage: &mut Coverage,
 ) -> Result<(), Box<Difference>> {
-    let mut tested = FrontEnd::new(tested);
-    let mut expected = FrontEnd::new(expected);
+    let mut machines = Machines {
+        tested: FrontEnd::new(tested),
+        expected: FrontEnd::new(expected),
+    };
     for number in 0..count {
         let case = case(seed, number);
-        let answers = [tested.answer(&case.request), expected.answer(&case.request)];
-        let [given, answer] = answers;
+        let answer = machines.ask(number, &case.request)?;
         coverage.count(&case, &answer);
-        let again = loaded_again(&case.request, &answer);
-        same(number, case.request, given, answer)?;
-        for (request, answer) in again.into_iter().flatten() {
-            for given in [tested.answer(&request), expected.answer(&request)] {
-                same(number, request.clone(), given, answer.clone())?;
-            }
+        machines.follow(number, &case.request, &answer)?;
+        if let Some(laid) = Laid::new(&case, &answer) {
+            let request = laid.request();
+            let answer = machines.ask(number, &request)?;
+            coverage.count_laid(&laid, &answer);
+            machines.follow(number, &request, &answer)?;
         }
     }
     Ok(())
 }
 
+/// The machine under test and the one it is measured by.
+struct Machines<T, E> {
+    tested: FrontEnd<T>,
+    expected: FrontEnd<E>,
+}
+
+impl<T: Machine, E: Machine> Machines<T, E> {
+    /// The answer of both.
+    fn ask(&mut self, number: u64, request: &Request) -> Result<Answer, Box<Difference>> {
+        let given = self.tested.answer(request);
+        let answer = self.expected.answer(request);
+        same(number, request, given, &answer)?;
+        Ok(answer)
+    }
+
+    /// Asks both what follows from a request and its answer.
+    fn follow(
+        &mut self,
+        number: u64,
+        request: &Request,
+        answer: &Answer,
+    ) -> Result<(), Box<Difference>> {
+        let written = loaded_again(request, answer).into_iter().flatten();
+        for (request, answer) in written.chain(done_again(request, answer)) {
+            same(number, &request, self.tested.answer(&request), &answer)?;
+            same(number, &request, self.expected.answer(&request), &answer)?;
+        }
+        Ok(())
+    }
+}
+
 /// Whether an answer is the one that is expected, and one that may be given.
 fn same(
     number: u64,
-    request: Request,
+    request: &Request,
     tested: Answer,
-    expected: Answer,
+    expected: &Answer,
 ) -> Result<(), Box<Difference>> {
-    if tested == expected && !tested.is_wrong() {
+    if tested == *expected && !tested.is_wrong() {
         return Ok(());
     }
     Err(Box::new(Difference {
         number,
-        request,
+        request: request.clone(),
         tested,
-        expected,
+        expected: expected.clone(),
     }))
 }
 
@@ -109,10 +146,7 @@ fn loaded_again(request: &Request, answer: &Answer) -> Option<[(Request, Answer)
         ..
     } = write;
     let load = Request::Load {
-        store: Listed {
-            size: store.size,
-            cells: Vec::new(),
-        },
+        store: zeros(store.size),
         tape: tape.clone(),
     };
     let mut changed = store.cells.clone();

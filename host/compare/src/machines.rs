@@ -134,6 +134,26 @@ fn largest(random: &mut Random) -> Image {
     image
 }
 
+/// The most cells of a store that are all put in use; of a larger one the first
+/// and the last so many are.
+const FILLED: usize = 70_000;
+
+/// Puts a word, a key or, mostly, both in every cell.
+pub fn fill(random: &mut Random, image: &mut Image) {
+    image.low.resize(image.size.min(FILLED), 0);
+    image
+        .high
+        .resize((image.size - image.low.len()).min(FILLED), 0);
+    for cell in image.low.iter_mut().chain(&mut image.high) {
+        let (key, word) = (1 + random.below(7), 1 + random.below(WORD));
+        *cell = match random.below(16) {
+            0 => word,
+            1 => key << 24,
+            _ => key << 24 | word,
+        };
+    }
+}
+
 fn set_control(random: &mut Random, image: &mut Image) {
     let limit = 2 * image.size as u32;
     let cells = image.low.len() as u32;

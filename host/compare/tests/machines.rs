@@ -31,7 +31,8 @@ fn store_of(request: &Request) -> Option<&Listed> {
         Request::PressReset { store, .. }
         | Request::PressStart { store, .. }
         | Request::PressAutoload { store, .. }
-        | Request::Load { store, .. } => Some(store),
+        | Request::Load { store, .. }
+        | Request::Overlay { store, .. } => Some(store),
         Request::Remark { .. } => None,
     }
 }
@@ -104,10 +105,27 @@ enum Flaw {
     OverlapAfterCells,
     OverlapAfterTape,
     OverlapLoadsFirstBlock,
+    LoadKeepsCells,
+    LoadKeepsKeys,
+    LoadKeepsRegisters,
+    LoadKeepsWords8To14,
+    LoadKeepsLastCell,
+    LoadKeepsBetweenBlocks,
+    LoadKeepsBehind65536,
+    LoadClearsNamedCells,
+    LoadClearsBeforeJudging,
+    LoadClearsBeforeTesting,
+    OverlayClears,
+    OverlayClearsKeys,
+    OverlayClearsRegisters,
+    OverlayClearsLastCell,
+    OverlayKeepsControl,
+    OverlayClearsWhereRefused,
+    OverlayPassesOverlap,
 }
 
 /// All of them.
-const FLAWS: [Flaw; 48] = [
+const FLAWS: [Flaw; 65] = [
     Flaw::Outcome,
     Flaw::LineNumber,
     Flaw::Executed,
@@ -156,6 +174,23 @@ const FLAWS: [Flaw; 48] = [
     Flaw::OverlapAfterCells,
     Flaw::OverlapAfterTape,
     Flaw::OverlapLoadsFirstBlock,
+    Flaw::LoadKeepsCells,
+    Flaw::LoadKeepsKeys,
+    Flaw::LoadKeepsRegisters,
+    Flaw::LoadKeepsWords8To14,
+    Flaw::LoadKeepsLastCell,
+    Flaw::LoadKeepsBetweenBlocks,
+    Flaw::LoadKeepsBehind65536,
+    Flaw::LoadClearsNamedCells,
+    Flaw::LoadClearsBeforeJudging,
+    Flaw::LoadClearsBeforeTesting,
+    Flaw::OverlayClears,
+    Flaw::OverlayClearsKeys,
+    Flaw::OverlayClearsRegisters,
+    Flaw::OverlayClearsLastCell,
+    Flaw::OverlayKeepsControl,
+    Flaw::OverlayClearsWhereRefused,
+    Flaw::OverlayPassesOverlap,
 ];
 
 /// The emulation with one flaw.
@@ -286,11 +321,10 @@ impl Machine for Flawed {
     }
 
     fn load(&self, store: &mut [u32], control: &mut Control, tape: &[u8]) -> Result<(), Refusal> {
-        let last = store.last().copied();
         let given = (store.to_vec(), *control);
-        let result = Emulation.load(store, control, tape);
+        let result = self.load_first(store, control, tape);
         let judged = self.judged(tape, store.len(), result);
-        if judged.is_err() {
+        if judged.is_err() && !self.clears_first() {
             store.copy_from_slice(&given.0);
             *control = given.1;
         }
@@ -301,10 +335,28 @@ impl Machine for Flawed {
             }
         }
         judged.map_err(|refusal| self.refusal(refusal, store, control))?;
-        if let (Flaw::LoadsOneCellLess, Some(last)) = (self.0, last) {
-            let place = store.len() - 1;
-            store[place] = last;
+        self.spoil_loaded(&given.0, store, tape);
+        Ok(())
+    }
+
+    fn overlay(
+        &self,
+        store: &mut [u32],
+        control: &mut Control,
+        tape: &[u8],
+    ) -> Result<(), Refusal> {
+        let given = *control;
+        let result = Emulation.overlay(store, control, tape);
+        match (self.0, result) {
+            (Flaw::OverlayPassesOverlap, Err(Refusal::BlockOverlap)) => return Ok(()),
+            (Flaw::OverlayClearsWhereRefused, Err(_)) => store.fill(0),
+            _ => (),
         }
+        result.map_err(|refusal| self.refusal(refusal, store, control))?;
+        if let Flaw::OverlayKeepsControl = self.0 {
+            *control = given;
+        }
+        self.spoil_laid(store, tape);
         Ok(())
     }
 
@@ -337,6 +389,85 @@ impl Machine for Flawed {
         match result {
             Ok(length) => self.spoil_tape(length, remark, tape),
             Err(refusal) => Err(self.spoil_write_refusal(refusal, tape)),
+        }
+    }
+}
+
+/// The cells that no block of a tape names.
+fn unnamed(cells: usize, tape: &[u8]) -> Vec<usize> {
+    let blocks = blocks(tape);
+    let named = |cell: &usize| blocks.iter().any(|block| block.cells.contains(cell));
+    (0..cells).filter(|cell| !named(cell)).collect()
+}
+
+/// Whether blocks of a tape lie on both sides of a cell.
+fn is_between_blocks(cell: usize, tape: &[u8]) -> bool {
+    let blocks = blocks(tape);
+    let left = blocks.iter().any(|block| block.cells.end <= cell);
+    left && blocks.iter().any(|block| block.cells.start > cell)
+}
+
+impl Flawed {
+    /// Whether its load clears the store before it is refused.
+    fn clears_first(&self) -> bool {
+        matches!(
+            self.0,
+            Flaw::LoadClearsBeforeJudging | Flaw::LoadClearsBeforeTesting
+        )
+    }
+
+    /// The load, with the store cleared before it where the flaw says so.
+    fn load_first(
+        &self,
+        store: &mut [u32],
+        control: &mut Control,
+        tape: &[u8],
+    ) -> Result<(), Refusal> {
+        let fits = store.iter().all(|&cell| cell < 1 << 27);
+        match self.0 {
+            Flaw::LoadClearsBeforeJudging if fits => store.fill(0),
+            Flaw::LoadClearsBeforeTesting if !fits => store.fill(0),
+            _ => (),
+        }
+        Emulation.load(store, control, tape)
+    }
+
+    /// What becomes of a store that was loaded.
+    fn spoil_loaded(&self, given: &[u32], store: &mut [u32], tape: &[u8]) {
+        let last = store.len() - 1;
+        if let Flaw::LoadsOneCellLess = self.0 {
+            store[last] = given[last];
+        }
+        if let Flaw::LoadClearsNamedCells = self.0 {
+            let named = blocks(tape);
+            let first = named.first().map_or(0..0, |block| block.cells.clone());
+            store[first].fill(0);
+        }
+        for cell in unnamed(store.len(), tape) {
+            store[cell] = match self.0 {
+                Flaw::LoadKeepsCells => given[cell],
+                Flaw::LoadKeepsKeys => given[cell] >> 24 << 24,
+                Flaw::LoadKeepsRegisters if cell < 4 => given[cell],
+                Flaw::LoadKeepsWords8To14 if (4..8).contains(&cell) => given[cell],
+                Flaw::LoadKeepsLastCell if cell == last => given[cell],
+                Flaw::LoadKeepsBehind65536 if cell >= 65_536 => given[cell],
+                Flaw::LoadKeepsBetweenBlocks if is_between_blocks(cell, tape) => given[cell],
+                _ => continue,
+            };
+        }
+    }
+
+    /// What becomes of a store that a tape was laid over.
+    fn spoil_laid(&self, store: &mut [u32], tape: &[u8]) {
+        let last = store.len() - 1;
+        for cell in unnamed(store.len(), tape) {
+            store[cell] = match self.0 {
+                Flaw::OverlayClears => 0,
+                Flaw::OverlayClearsKeys => store[cell] & 0xff_ffff,
+                Flaw::OverlayClearsRegisters if cell < 4 => 0,
+                Flaw::OverlayClearsLastCell if cell == last => 0,
+                _ => continue,
+            };
         }
     }
 }
@@ -519,6 +650,30 @@ fn a_flaw_of_both_writers_is_found() {
     }
 }
 
+/// A flaw that both machines have shows by the blocks of the tape.
+#[test]
+fn a_flaw_of_both_loaders_is_found() {
+    for flaw in [
+        Flaw::LoadKeepsCells,
+        Flaw::LoadKeepsKeys,
+        Flaw::LoadKeepsRegisters,
+        Flaw::LoadKeepsLastCell,
+        Flaw::LoadClearsNamedCells,
+        Flaw::OverlayClears,
+        Flaw::OverlayClearsKeys,
+        Flaw::OverlayClearsLastCell,
+        Flaw::OverlayKeepsControl,
+    ] {
+        let mut coverage = Coverage::default();
+        let result = compare(Flawed(flaw), Flawed(flaw), 1, 100_000, &mut coverage);
+        let difference = result.err().unwrap_or_else(|| panic!("{flaw:?} not found"));
+        assert!(matches!(
+            difference.request,
+            Request::Load { .. } | Request::Overlay { .. }
+        ));
+    }
+}
+
 /// What no machine should answer is found where both answer so.
 #[test]
 fn a_change_that_both_make_is_found() {
@@ -530,6 +685,8 @@ fn a_change_that_both_make_is_found() {
         Flaw::WritesBehindTape,
         Flaw::WriteRefusalChangesTape,
         Flaw::OverlapLoadsFirstBlock,
+        Flaw::LoadClearsBeforeJudging,
+        Flaw::OverlayClearsWhereRefused,
     ] {
         let mut coverage = Coverage::default();
         let result = compare(Flawed(flaw), Flawed(flaw), 1, 100_000, &mut coverage);

@@ -47,4 +47,4 @@ pub use control::Control;
 pub use refusal::Refusal;
 pub use run::{press_autoload, press_reset, press_start, run, Kind, Outcome, Report};
 pub use store::{CELL_LIMIT, MAXIMUM_CELLS, MINIMUM_CELLS};
-pub use tape::{load, remark, write, MAXIMUM_REMARK, MAXIMUM_TAPE};
+pub use tape::{load, overlay, remark, write, MAXIMUM_REMARK, MAXIMUM_TAPE};

@@ -1,5 +1,5 @@
-//! The load tape and its remark (01, "Load tape"; 02, E4), and the writer of
-//! tapes (02, E2).
+//! The load tape and its remark (01, "Load tape"; 02, E4 and E5), and the writer
+//! of tapes (02, E2).
 
 use crate::control::Control;
 use crate::refusal::Refusal;
@@ -164,11 +164,8 @@ fn records(tape: &[u8]) -> impl Iterator<Item = Record<'_>> {
     })
 }
 
-/// Loads a tape: the blocks into the store and the control record into
-/// `control`. The whole tape is judged before a cell changes.
-pub fn load(store: &mut [u32], control: &mut Control, tape: &[u8]) -> Result<(), Refusal> {
-    check_store(store)?;
-    let loaded = judge(tape, store.len())?;
+/// Puts the blocks of a judged tape into the store.
+fn copy_blocks(store: &mut [u32], tape: &[u8]) {
     for record in records(tape) {
         if record.kind == RecordKind::Block {
             let part = &mut store[first_cell(record.payload)..];
@@ -177,6 +174,26 @@ pub fn load(store: &mut [u32], control: &mut Control, tape: &[u8]) -> Result<(),
             }
         }
     }
+}
+
+/// Loads a tape: the blocks into the store, zero into every cell that no block
+/// names, and the control record into `control`. The whole tape is judged before
+/// a cell changes.
+pub fn load(store: &mut [u32], control: &mut Control, tape: &[u8]) -> Result<(), Refusal> {
+    check_store(store)?;
+    let loaded = judge(tape, store.len())?;
+    store.fill(0);
+    copy_blocks(store, tape);
+    *control = loaded;
+    Ok(())
+}
+
+/// Lays a tape over what the store holds: as [`load`], but every cell that no
+/// block names is kept.
+pub fn overlay(store: &mut [u32], control: &mut Control, tape: &[u8]) -> Result<(), Refusal> {
+    check_store(store)?;
+    let loaded = judge(tape, store.len())?;
+    copy_blocks(store, tape);
     *control = loaded;
     Ok(())
 }

@@ -3,7 +3,7 @@
 mod common;
 
 use common::run_alone;
-use emulation::{load, remark, Control, Outcome, Refusal};
+use emulation::{load, overlay, remark, Control, Outcome, Refusal};
 
 fn record(kind: u16, payload: &[u8]) -> Vec<u8> {
     let mut bytes = (payload.len() as u32).to_le_bytes().to_vec();
@@ -34,17 +34,26 @@ fn end() -> Vec<u8> {
     record(3, &[])
 }
 
-/// The loader's refusal, which the remark reader gives too.
+/// Word and key in every cell.
+fn full_store() -> Vec<u32> {
+    (0..16)
+        .map(|cell| ((cell % 7 + 1) << 24) + cell + 1)
+        .collect()
+}
+
+/// The loader's refusal, which overlay and the remark reader give too; every
+/// cell is kept.
 fn refusal(parts: &[Vec<u8>]) -> Refusal {
     let tape = parts.concat();
-    let mut store = vec![3; 16];
+    let mut store = full_store();
     let given = Control {
         ic: 6,
         ..Control::fresh()
     };
     let mut control = given;
     let refusal = load(&mut store, &mut control, &tape).unwrap_err();
-    assert_eq!((store, control), (vec![3; 16], given));
+    assert_eq!(overlay(&mut store, &mut control, &tape), Err(refusal));
+    assert_eq!((store, control), (full_store(), given));
     assert_eq!(remark(&tape, 16), Err(refusal));
     refusal
 }
@@ -67,7 +76,7 @@ fn the_tape_of_the_paper() {
 }
 
 #[test]
-fn blocks_are_loaded_and_other_cells_stay() {
+fn blocks_are_loaded() {
     let tape = [
         block(2, &[20, 21]),
         record(4, b""),
@@ -78,10 +87,98 @@ fn blocks_are_loaded_and_other_cells_stay() {
     ]
     .concat();
     let mut store = vec![9; 8];
-    load(&mut store, &mut Control::fresh(), &tape).unwrap();
+    overlay(&mut store, &mut Control::fresh(), &tape).unwrap();
     assert_eq!(store, [9, 9, 20, 21, 9, 50, 9, 9]);
+    load(&mut store, &mut Control::fresh(), &tape).unwrap();
+    assert_eq!(store, [0, 0, 20, 21, 0, 50, 0, 0]);
     let text = remark(&tape, 8).unwrap().unwrap();
     assert!(text.is_empty());
+}
+
+/// Tapes that name no cell, each cell alone and all of them, loaded and laid
+/// over a full store, registers and words 8 to 14 included.
+#[test]
+fn unnamed_cells() {
+    let last = [good_control(), end()].concat();
+    let named: Vec<(usize, usize)> = (0..16).map(|cell| (cell, 1)).chain([(0, 16)]).collect();
+    for (first, count) in named.into_iter().chain([(0, 0)]) {
+        let cells = vec![5; count];
+        let blocks = if count > 0 {
+            block(first as u32, &cells)
+        } else {
+            Vec::new()
+        };
+        let tape = [blocks, last.clone()].concat();
+        let [mut loaded, mut laid] = [vec![0; 16], full_store()];
+        loaded[first..first + count].fill(5);
+        laid[first..first + count].fill(5);
+        let (mut store, mut control) = (
+            full_store(),
+            Control {
+                ic: 6,
+                ..Control::fresh()
+            },
+        );
+        load(&mut store, &mut control, &tape).unwrap();
+        assert_eq!((store, control), (loaded, Control::fresh()));
+        let (mut store, mut control) = (
+            full_store(),
+            Control {
+                ic: 6,
+                ..Control::fresh()
+            },
+        );
+        overlay(&mut store, &mut control, &tape).unwrap();
+        assert_eq!((store, control), (laid, Control::fresh()));
+    }
+}
+
+/// The largest store, every cell in use; the tape names its last cell but one.
+#[test]
+fn the_largest_store() {
+    let cells = 8_388_608;
+    let tape = [block(cells as u32 - 2, &[5]), good_control(), end()].concat();
+    let mut store = vec![134_217_727; cells];
+    let mut control = Control::fresh();
+    overlay(&mut store, &mut control, &tape).unwrap();
+    assert_eq!(store[cells - 2], 5);
+    let kept = store.iter().filter(|&&cell| cell == 134_217_727).count();
+    assert_eq!(kept, cells - 1);
+    load(&mut store, &mut control, &tape).unwrap();
+    assert_eq!(store[cells - 2], 5);
+    assert_eq!(store.iter().filter(|&&cell| cell == 0).count(), cells - 1);
+}
+
+/// A cell of zero on the tape, and a border over a ground.
+#[test]
+fn a_border_over_a_ground() {
+    let last = [good_control(), end()].concat();
+    let ground = [block(1, &[1, 2, 3 << 24, 4]), last.clone()].concat();
+    let border = [block(0, &[7]), block(3, &[0, 6]), last].concat();
+    let (mut store, mut control) = (vec![9; 8], Control::fresh());
+    load(&mut store, &mut control, &ground).unwrap();
+    assert_eq!(store, [0, 1, 2, 3 << 24, 4, 0, 0, 0]);
+    overlay(&mut store, &mut control, &border).unwrap();
+    assert_eq!(store, [7, 1, 2, 0, 6, 0, 0, 0]);
+    load(&mut store, &mut control, &ground).unwrap();
+    assert_eq!(store, [0, 1, 2, 3 << 24, 4, 0, 0, 0]);
+}
+
+/// A cell that is too large is refused though the load would clear it, and
+/// after the number of cells.
+#[test]
+fn the_store_is_tested_as_it_came() {
+    let tape = [good_control(), end()].concat();
+    for call in [load, overlay] {
+        for (cells, refusal) in [(8, Refusal::CellValue), (7, Refusal::StoreSize)] {
+            let mut store = vec![5; cells];
+            store[3] = 1 << 27;
+            let (given, mut control) = (store.clone(), Control::fresh());
+            assert_eq!(call(&mut store, &mut control, &tape), Err(refusal));
+            assert_eq!(call(&mut store, &mut control, &[]), Err(refusal));
+            assert_eq!(store, given);
+        }
+    }
 }
 
 #[test]

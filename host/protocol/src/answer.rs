@@ -33,7 +33,8 @@ pub enum Answer {
         /// The device buffer registers after it.
         devices: Devices,
     },
-    /// Another key that was pressed or a tape that was loaded.
+    /// Another key that was pressed, or a tape that was loaded or laid over a
+    /// store.
     Done {
         /// The control record after it.
         control: Control,

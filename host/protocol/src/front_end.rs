@@ -14,8 +14,8 @@ const CHUNK: usize = 1024;
 /// more than any tape has.
 const LONGEST_BUFFER: usize = 2 * MAXIMUM_TAPE;
 
-/// The record that a loader is given; it breaks every rule, and a loader
-/// neither tests it nor changes it where it refuses.
+/// The record that load and overlay are given; it breaks every rule, and they
+/// neither test it nor change it where they refuse.
 const NEVER_TESTED: Control = Control {
     ic: u32::MAX,
     ir: u32::MAX,
@@ -74,6 +74,11 @@ impl<M: Machine> FrontEnd<M> {
             Request::Load { store, tape } => {
                 self.change(store, NEVER_TESTED, |machine, cells, control| {
                     machine.load(cells, control, tape)
+                })
+            }
+            Request::Overlay { store, tape } => {
+                self.change(store, NEVER_TESTED, |machine, cells, control| {
+                    machine.overlay(cells, control, tape)
                 })
             }
             Request::Remark { cells, tape } => match self.machine.remark(tape, *cells) {

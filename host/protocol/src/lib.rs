@@ -14,7 +14,7 @@
 //! | `run N cells ctl lines budget dev0 dev1 chars typing` | `OUTCOME executed entries ctl changed taken typed dev0 dev1 typing` |
 //! | `keyreset N cells ctl`, `keystart N cells ctl` | `ok ctl changed` |
 //! | `keyautoload N cells ctl dev0 dev1 chars` | `ok ctl changed taken dev0 dev1` |
-//! | `load N cells tape` | `ok ctl changed` |
+//! | `load N cells tape`, `overlay N cells tape` | `ok ctl changed` |
 //! | `remark N tape` | `none` or `at S E` |
 //! | `write N cells ctl remark buffer` | `tape HEX` |
 //!

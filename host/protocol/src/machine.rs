@@ -1,4 +1,4 @@
-//! What answers a request: the seven calls of a machine.
+//! What answers a request: the eight calls of a machine.
 
 use emulation::{Control, Devices, Refusal, Report};
 
@@ -32,8 +32,12 @@ pub trait Machine {
         characters: &[u8],
     ) -> Result<usize, Refusal>;
 
-    /// Loads a tape.
+    /// Loads a tape; cells that no block names become zero.
     fn load(&self, store: &mut [u32], control: &mut Control, tape: &[u8]) -> Result<(), Refusal>;
+
+    /// Lays a tape over the store; cells that no block names are kept.
+    fn overlay(&self, store: &mut [u32], control: &mut Control, tape: &[u8])
+        -> Result<(), Refusal>;
 
     /// The first remark of a tape that loads into a store of `cells` cells.
     fn remark<'t>(&self, tape: &'t [u8], cells: usize) -> Result<Option<&'t [u8]>, Refusal>;
@@ -86,6 +90,15 @@ impl Machine for Emulation {
 
     fn load(&self, store: &mut [u32], control: &mut Control, tape: &[u8]) -> Result<(), Refusal> {
         emulation::load(store, control, tape)
+    }
+
+    fn overlay(
+        &self,
+        store: &mut [u32],
+        control: &mut Control,
+        tape: &[u8],
+    ) -> Result<(), Refusal> {
+        emulation::overlay(store, control, tape)
     }
 
     fn remark<'t>(&self, tape: &'t [u8], cells: usize) -> Result<Option<&'t [u8]>, Refusal> {

@@ -126,6 +126,15 @@ impl Machine for Proved {
         call(control, |control| rc4000::load(store, control, tape))
     }
 
+    fn overlay(
+        &self,
+        store: &mut [u32],
+        control: &mut Control,
+        tape: &[u8],
+    ) -> Result<(), Refusal> {
+        call(control, |control| rc4000::overlay(store, control, tape))
+    }
+
     fn remark<'t>(&self, tape: &'t [u8], cells: usize) -> Result<Option<&'t [u8]>, Refusal> {
         rc4000::remark(tape, cells).map_err(refusal)
     }

@@ -86,6 +86,13 @@ pub enum Request {
         /// The tape.
         tape: Vec<u8>,
     },
+    /// `overlay N cells tape`.
+    Overlay {
+        /// The store.
+        store: Listed,
+        /// The tape.
+        tape: Vec<u8>,
+    },
     /// `remark N tape`.
     Remark {
         /// The number of cells.
@@ -123,16 +130,15 @@ impl Request {
                 store: listed(size, cells)?,
                 tape: bytes(tape)?,
             }),
+            ["overlay", size, cells, tape] => Ok(Request::Overlay {
+                store: listed(size, cells)?,
+                tape: bytes(tape)?,
+            }),
             ["remark", cells, tape] => Ok(Request::Remark {
                 cells: number(cells)?,
                 tape: bytes(tape)?,
             }),
-            ["write", size, cells, ref control @ .., remark, space] => Ok(Request::Write(Write {
-                store: listed(size, cells)?,
-                control: control_fields(control)?,
-                remark: optional_bytes(remark)?,
-                space: number(space)?,
-            })),
+            ["write", ref fields @ ..] => write(fields).map(Request::Write),
             _ => Err(Bad),
         }
     }
@@ -153,6 +159,19 @@ fn run(fields: &[&str]) -> Result<Run, Bad> {
         devices: devices(reader, typewriter)?,
         characters: bytes(characters)?,
         typing: bytes(typing)?,
+    })
+}
+
+/// The fields of a write after its name.
+fn write(fields: &[&str]) -> Result<Write, Bad> {
+    let [size, cells, ref control @ .., remark, space] = *fields else {
+        return Err(Bad);
+    };
+    Ok(Write {
+        store: listed(size, cells)?,
+        control: control_fields(control)?,
+        remark: optional_bytes(remark)?,
+        space: number(space)?,
     })
 }
 
@@ -358,6 +377,10 @@ impl fmt::Display for Request {
             }
             Request::Load { store, tape } => {
                 write!(formatter, "load {store} ")?;
+                write_bytes(formatter, tape)
+            }
+            Request::Overlay { store, tape } => {
+                write!(formatter, "overlay {store} ")?;
                 write_bytes(formatter, tape)
             }
             Request::Remark { cells, tape } => {

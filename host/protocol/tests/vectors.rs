@@ -11,7 +11,7 @@ fn vectors(name: &str) -> String {
 
 #[test]
 fn stored_answers() {
-    let (cases, answers) = (vectors("e4.cases"), vectors("e4.answers"));
+    let (cases, answers) = (vectors("e5.cases"), vectors("e5.answers"));
     let mut output = Vec::new();
     serve(Emulation, cases.as_bytes(), &mut output).unwrap();
     let output = String::from_utf8(output).unwrap();
@@ -23,7 +23,7 @@ fn stored_answers() {
 
 #[test]
 fn requests_print_as_they_are_read() {
-    for line in vectors("e4.cases").lines() {
+    for line in vectors("e5.cases").lines() {
         let request = Request::parse(line).unwrap();
         assert_eq!(Request::parse(&request.to_string()), Ok(request));
     }
@@ -48,6 +48,10 @@ fn bad_requests() {
         "keyreset 8 - 0 0 0 0 128 0 1 0 0 0",
         "load 8 - 0g",
         "load 8 - 0",
+        "overlay 8 - 0",
+        "overlay 8 8=1 -",
+        "overlay 8 -",
+        "overlay 8 - - -",
         "remark 8",
         "write 8 - 0 0 0 0 128 0 1 0 0 none",
         "write 8 - 0 0 0 0 128 0 1 0 0 none 32 0",
@@ -73,6 +77,28 @@ fn the_store_is_zero_again_for_the_next_request() {
     assert_eq!(answers[1], "ok 0 0 0 0 128 0 1 0 1 -");
     let many = "load 99999999999 99999999998=5 -";
     assert_eq!(front_end.answer_line(many).to_string(), "refused 1");
+}
+
+#[test]
+fn loads_and_overlays() {
+    let mut front_end = FrontEnd::new(Emulation);
+    let last = format!("140000000200{}80000500000000000300", "00".repeat(16));
+    let cells = "0=16777217,3=5,6=7,7=134217727";
+    let mut answer = |call: &str, tape: &str| {
+        let line = format!("{call} 8 {cells} {tape}");
+        front_end.answer_line(&line).to_string()
+    };
+    let control = "ok 0 0 0 0 128 0 1 0 1";
+    assert_eq!(answer("load", &last), format!("{control} 0=0,3=0,6=0,7=0"));
+    assert_eq!(answer("overlay", &last), format!("{control} -"));
+    // Cells 2 and 3 are named.
+    let block = format!("0c0000000100020000000900000005000000{last}");
+    assert_eq!(answer("load", &block), format!("{control} 0=0,2=9,6=0,7=0"));
+    assert_eq!(answer("overlay", &block), format!("{control} 2=9"));
+    for call in ["load", "overlay"] {
+        assert_eq!(answer(call, "-"), "refused 6");
+        assert_eq!(answer(call, &format!("{block}00")), "refused 11");
+    }
 }
 
 #[test]

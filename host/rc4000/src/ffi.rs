@@ -86,6 +86,13 @@ extern "C" {
         tape: *const u8,
         length: usize,
     ) -> State;
+    pub fn rc4000_overlay(
+        store: *mut u32,
+        cells: usize,
+        control: ControlRecord,
+        tape: *const u8,
+        length: usize,
+    ) -> State;
     pub fn rc4000_remark(tape: *const u8, length: usize, cells: usize) -> Text;
     pub fn rc4000_write(
         store: *const u32,

@@ -117,11 +117,30 @@ pub fn press_autoload(
 }
 
 /// Loads a tape, whose blocks do not overlap, into the store and its control
-/// record into `control`. The record given is not tested.
+/// record into `control`. Every cell that no block names becomes zero, word and
+/// key, registers included: nothing of what the store held stays. The record
+/// given is not tested.
 pub fn load(store: &mut [u32], control: &mut Control, tape: &[u8]) -> Result<(), Refusal> {
     // SAFETY: as in `run`; the tape is only read.
     let state = unsafe {
         ffi::rc4000_load(
+            store.as_mut_ptr(),
+            store.len(),
+            (*control).into(),
+            tape.as_ptr(),
+            tape.len(),
+        )
+    };
+    state.hand_back(control)
+}
+
+/// Lays a tape over what the store holds, as a border tape over a ground tape:
+/// as [`load`], with the same refusals and the tape's control record, but every
+/// cell that no block names is kept.
+pub fn overlay(store: &mut [u32], control: &mut Control, tape: &[u8]) -> Result<(), Refusal> {
+    // SAFETY: as in `run`; the tape is only read.
+    let state = unsafe {
+        ffi::rc4000_overlay(
             store.as_mut_ptr(),
             store.len(),
             (*control).into(),
@@ -147,8 +166,8 @@ pub fn remark(tape: &[u8], cells: usize) -> Result<Option<&[u8]>, Refusal> {
 /// are kept, and gives the tape's length. A remark has at most 255 bytes; an
 /// empty one is written too. Store and control record are only read.
 ///
-/// [`load`] of these bytes into as many cells of zero gives the same store and
-/// control record. The device buffer registers are not on a tape.
+/// [`load`] of these bytes into as many cells gives the same store and control
+/// record. The device buffer registers are not on a tape.
 pub fn write(
     store: &[u32],
     control: Control,

@@ -30,14 +30,21 @@ impl Machine {
         }
     }
 
-    /// Loads a tape: its blocks into the store, and its control record.
+    /// Loads a tape: its blocks into the store, zero into every other cell, and
+    /// its control record.
     pub fn load(&mut self, tape: &[u8]) -> Result<(), Refusal> {
         crate::load(&mut self.store, &mut self.control, tape)
     }
 
+    /// Lays a tape over what the store holds: its blocks into the store, and its
+    /// control record; every other cell is kept.
+    pub fn overlay(&mut self, tape: &[u8]) -> Result<(), Refusal> {
+        crate::overlay(&mut self.store, &mut self.control, tape)
+    }
+
     /// The machine's tape, with this remark first where one is given. Loaded
-    /// into a machine with as many cells of zero it gives this store and
-    /// control record; the device buffer registers are not on it.
+    /// into a machine with as many cells it gives this store and control
+    /// record; the device buffer registers are not on it.
     pub fn write(&self, remark: Option<&[u8]>) -> Result<Vec<u8>, Refusal> {
         let mut tape = vec![0; LONGEST_TAPE];
         let length = crate::write(&self.store, self.control, remark, &mut tape)?;

@@ -1,7 +1,7 @@
 //! Every call of the wrapper, done and refused.
 
-use rc4000::{load, press_autoload, press_reset, press_start, remark, run, run_without_devices};
-use rc4000::{Control, Devices, Kind, Outcome, Refusal, Report};
+use rc4000::{cell, load, overlay, press_autoload, press_reset, press_start, remark, run};
+use rc4000::{run_without_devices, Control, Devices, Kind, Outcome, Refusal, Report};
 
 /// A remark, the control record in the reset state, the end.
 fn tape() -> Vec<u8> {
@@ -125,10 +125,12 @@ fn overlapping_blocks_are_refused() {
         ic: 6,
         ..Control::fresh()
     };
-    let (mut store, mut control) = (vec![7; 8], given);
-    let refused = load(&mut store, &mut control, &overlapping);
-    assert_eq!(refused, Err(Refusal::BlockOverlap));
-    assert_eq!((store, control), (vec![7; 8], given));
+    for call in [load, overlay] {
+        let (mut store, mut control) = (vec![7; 8], given);
+        let refused = call(&mut store, &mut control, &overlapping);
+        assert_eq!(refused, Err(Refusal::BlockOverlap));
+        assert_eq!((store, control), (vec![7; 8], given));
+    }
     assert_eq!(remark(&overlapping, 8), Err(Refusal::BlockOverlap));
     let beyond = [block(2, 3), block(4, 5), tape()].concat();
     assert_eq!(remark(&beyond, 8), Err(Refusal::BlockPlace));
@@ -141,6 +143,111 @@ fn touching_blocks_are_loaded() {
     load(&mut store, &mut Control::fresh(), &touching).unwrap();
     assert_eq!(store, vec![1; 8]);
     assert!(remark(&touching, 8).unwrap().is_some());
+}
+
+/// Word and key in every cell, registers and words 8 to 14 included.
+fn full_store() -> Vec<u32> {
+    (0..16)
+        .map(|place| cell(place % 7 + 1, place + 1))
+        .collect()
+}
+
+#[test]
+fn a_load_clears_the_cells_that_no_block_names() {
+    for first in 0..16 {
+        let mut control = Control {
+            ic: 6,
+            ..Control::fresh()
+        };
+        let mut store = full_store();
+        let mut named = vec![0; 16];
+        named[first as usize] = 1;
+        load(
+            &mut store,
+            &mut control,
+            &[block(first, 1), tape()].concat(),
+        )
+        .unwrap();
+        assert_eq!((store, control), (named, Control::fresh()));
+    }
+    let mut store = full_store();
+    load(&mut store, &mut Control::fresh(), &tape()).unwrap();
+    assert_eq!(store, vec![0; 16]);
+}
+
+#[test]
+fn an_overlay_keeps_the_cells_that_no_block_names() {
+    for first in 0..16 {
+        let mut control = Control {
+            ic: 6,
+            ..Control::fresh()
+        };
+        let mut store = full_store();
+        let mut named = full_store();
+        named[first as usize] = 1;
+        overlay(
+            &mut store,
+            &mut control,
+            &[block(first, 1), tape()].concat(),
+        )
+        .unwrap();
+        assert_eq!((store, control), (named, Control::fresh()));
+    }
+    let mut store = full_store();
+    overlay(&mut store, &mut Control::fresh(), &tape()).unwrap();
+    assert_eq!(store, full_store());
+}
+
+#[test]
+fn the_largest_store_is_cleared() {
+    let cells = 8_388_608;
+    let mut store = vec![134_217_727; cells];
+    let mut control = Control::fresh();
+    let named = [block(cells as u32 - 2, 1), tape()].concat();
+    overlay(&mut store, &mut control, &named).unwrap();
+    let kept = store.iter().filter(|&&cell| cell == 134_217_727).count();
+    assert_eq!((store[cells - 2], kept), (1, cells - 1));
+    load(&mut store, &mut control, &named).unwrap();
+    let zero = store.iter().filter(|&&cell| cell == 0).count();
+    assert_eq!((store[cells - 2], zero), (1, cells - 1));
+}
+
+#[test]
+fn a_border_is_laid_over_a_ground() {
+    let (mut store, mut control) = (full_store(), Control::fresh());
+    let ground = [block(2, 6), tape()].concat();
+    let border = [block(0, 1), block(7, 2), tape()].concat();
+    load(&mut store, &mut control, &ground).unwrap();
+    overlay(&mut store, &mut control, &border).unwrap();
+    assert_eq!(store, [1, 0, 1, 1, 1, 1, 1, 1, 1, 0, 0, 0, 0, 0, 0, 0]);
+    let mut zero = vec![0; 16];
+    overlay(&mut zero, &mut control, &ground).unwrap();
+    load(&mut store, &mut control, &ground).unwrap();
+    assert_eq!(store, zero);
+}
+
+/// Neither call clears or changes anything; the store is tested as it came.
+#[test]
+fn a_refused_tape_leaves_every_cell() {
+    let given = Control {
+        ic: 6,
+        ..Control::fresh()
+    };
+    let (good, beyond) = (tape(), [block(0, 17), tape()].concat());
+    let mut large = full_store();
+    large[15] = 1 << 27;
+    for (cells, tape, refusal) in [
+        (full_store(), &good[..9], Refusal::TapeEnds),
+        (full_store(), &beyond[..], Refusal::BlockPlace),
+        (large, &good[..], Refusal::CellValue),
+        (vec![5; 7], &good[..], Refusal::StoreSize),
+    ] {
+        for call in [load, overlay] {
+            let (mut store, mut control) = (cells.clone(), given);
+            assert_eq!(call(&mut store, &mut control, tape), Err(refusal));
+            assert_eq!((&store, control), (&cells, given));
+        }
+    }
 }
 
 /// An instruction by its code and address.

@@ -73,6 +73,30 @@ fn the_methods_are_the_calls() {
 }
 
 #[test]
+fn load_clears_and_overlay_keeps() {
+    let mut machine = Machine::fresh(64);
+    machine.devices.reader = 5;
+    machine.set_word(40, 7);
+    machine.set_key(0, 3);
+    let mut other = machine.clone();
+    machine.overlay(&tape(&COPY)).unwrap();
+    assert_eq!((machine.word(40), machine.key(0)), (Some(7), Some(3)));
+    assert_eq!((machine.word(16), machine.control.ic), (Some(COPY[0]), 16));
+    machine.overlay(&tape(&[9])).unwrap();
+    assert_eq!(
+        (machine.word(16), machine.word(18)),
+        (Some(9), Some(COPY[1]))
+    );
+    machine.load(&tape(&[9])).unwrap();
+    other.load(&tape(&[9])).unwrap();
+    assert_eq!(machine, other);
+    assert_eq!((machine.word(40), machine.key(0)), (Some(0), Some(0)));
+    assert_eq!(machine.devices.reader, 5);
+    assert_eq!(machine.overlay(&[]), Err(Refusal::TapeEnds));
+    assert_eq!(machine, other);
+}
+
+#[test]
 fn the_start_key_takes_word_14() {
     let mut machine = Machine::fresh(8);
     machine.set_word(Control::START_ADDRESS, 16);

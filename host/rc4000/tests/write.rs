@@ -42,12 +42,15 @@ fn the_bytes_of_a_tape() {
     assert_eq!(machine().write(Some(b"AB")), Ok(TAPE.to_vec()));
 }
 
-/// The machine and its remark come back from its tape.
+/// The machine and its remark come back from its tape, whatever the store held.
 fn comes_back(machine: &Machine, text: Option<&[u8]>) {
     let tape = machine.write(text).unwrap();
     let mut other = Machine::fresh(machine.store.len());
-    other.load(&tape).unwrap();
-    assert_eq!(&other, machine);
+    for held in [0, 7 << 24 | 99] {
+        other.store.fill(held);
+        other.load(&tape).unwrap();
+        assert_eq!(&other, machine);
+    }
     assert_eq!(remark(&tape, machine.store.len()), Ok(text));
 }
 

@@ -1,7 +1,7 @@
-use mathlib.Core.Path.{refl, sym, _∙_}
-use Rattle.tape_load.proofs.Fits.{records-fit, control-there}
-use Rattle.definition_tape.proofs.Judged.{load-judged}
-use Rattle.tape_load.proofs.Loaded.{load-accepted, load-refused}
+use mathlib.Core.Path.{sym, _∙_}
+use Rattle.definition_tape.specs.Load.{loading}
+use Rattle.definition_tape.proofs.Judged.{load-accepts}
+use Rattle.tape_load.proofs.Loaded.{laid, not-laid}
 use borrow.Author.Needs.{needs}
 use Rattle.tape_load.proofs.load.Statement.{statement}
 use Rattle.tape_load.proofs.load.Tie as tie
@@ -12,12 +12,13 @@ judge-load-requires c κs = search needs
 enum-told : tie.Need-enum-told
 enum-told c = search needs
 
-load-records-requires : tie.Need-load-records-requires
-load-records-requires c κs = records-fit (load-judged _ _ (sym (c .before .before .before .judge-load .ensures) ∙ c .before .enum-told .given .1))
+clear-requires : tie.Need-clear-requires
+clear-requires c κs = search needs
 
-loaded-control-requires : tie.Need-loaded-control-requires
-loaded-control-requires c κs = let b4 = c .before .before .before .before in
-    control-there (load-judged _ _ (sym (b4 .before .before .judge-load .ensures) ∙ b4 .enum-told .given .1)) refl
+lay-requires : tie.Need-lay-requires
+lay-requires c κs =
+    let b4 = c .before .before .before .before in
+    rw (c .before .before .before .clear .kept .0) (load-accepts _ _ (sym (b4 .before .before .before .judge-load .ensures) ∙ b4 .before .enum-told .given .1))
 
 enum-known-v : tie.Need-enum-known-v
 enum-known-v c = search needs
@@ -26,14 +27,19 @@ same-length : tie.Need-same-length
 same-length c = search needs
 
 returns : tie.Need-returns
-returns c = let b4 = c .before .before .before .before in
-    load-accepted _ _ _ _ (b4 .before .before .before .judge-load .ensures) _ _ (b4 .before .enum-told .given .1) (c .before .before .before .load-records .ensures) (c .loaded-control .ensures)
+unfolding loading
+returns c =
+    let b4 = c .before .before .before .before in
+    let b8 = b4 .before .before .before .before in
+    let l = c .before .before .lay .ensures in
+    laid _ _ _ _ _ _ _ (sym (b8 .before .before .judge-load .ensures) ∙ b8 .enum-told .given .1) (l .0) (rw (← (b4 .before .before .clear .ensures)) (l .1))
 
 same-length-2 : tie.Need-same-length-2
 same-length-2 c = search needs
 
 returns-2 : tie.Need-returns-2
-returns-2 c = load-refused _ _ _ _ (c .before .before .before .judge-load .ensures) _ (c .before .v .given .1)
+unfolding loading
+returns-2 c = not-laid _ _ _ _ _ _ (sym (c .before .before .before .judge-load .ensures) ∙ c .before .v .given .1)
 
 pub load-spec : {M : Type 1} → statement M
 load-spec =
@@ -41,8 +47,8 @@ load-spec =
     (tie.spec
     judge-load-requires
     enum-told
-    load-records-requires
-    loaded-control-requires
+    clear-requires
+    lay-requires
     enum-known-v
     same-length
     returns
