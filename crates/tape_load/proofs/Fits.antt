@@ -1,18 +1,21 @@
--- The records of an accepted tape are as the loader relies on: each block lies within the store, and there is a control record. Assumes nothing.
-use Prim.Native.Nat.{ℕ, _≤_, _<_}
-use mathlib.Core.Path.{_≡_}
-use mathlib.Core.Bool.{Bool, false}
-use mathlib.Core.List.{List}
+-- The records of an accepted tape are as the loader relies on: each block lies within the store, the control record comes, then only the end.
+-- Assumes nothing.
+use Prim.Native.Nat.{ℕ, _<_}
+use mathlib.Core.Path.{_≡_, refl, _∙_}
+use mathlib.Core.Bool.{Bool, true, false}
+use mathlib.Core.List.{List, [], _∷_}
 use native.Mathlib.Omega.{arith}
-use native.Mathlib.Decide.{ℕ-discrete}
-use borrow.Author.Tests.{ne-eqb}
+use borrow.Author.Tests.{eq-eqb, ne-eqb, eqb-true}
 use lib.ListN.{length}
 use lib.Dec.{eqb}
-use Rattle.definition_tape.specs.Layout.{lengthOf, kindOf, payloadOf, restOf, recordsOf, firstOf}
-use Rattle.definition_tape.proofs.Records.{length-rest, records-none, records-more}
-use Rattle.definition_tape.proofs.Firsts.{first-here, first-next}
-use Rattle.definition_tape.proofs.Judged.{Good, Judged, last, more, block-length, block-payload, control-length, no-end}
-use Rattle.tape_load.specs.Fits.{RecordFits, RecordsFit, ControlThere}
+use Rattle.machine.specs.declared.Verdict.the-variants.{Accepted}
+use Rattle.definition_tape.specs.Layout.{lengthOf, kindOf, payloadOf, restOf, recordsOf}
+use Rattle.definition_tape.specs.Judge.{inOrder, judgeTape}
+use Rattle.definition_tape.specs.Load.{loadRecord, loadRecords}
+use Rattle.definition_tape.proofs.Records.{length-rest}
+use Rattle.definition_tape.proofs.Loads.{load-more, load-none}
+use Rattle.definition_tape.proofs.Judged.{Good, Judged, last, more, block-length, block-payload, control-length, tape-judged, no-end}
+use Rattle.tape_load.specs.Fits.{RecordFits}
 
 record-fits : {n : ℕ} {after u : Bool} {t : List ℕ} → Good n after u t → RecordFits n t
 record-fits {n} {after} {u} {t} g =
@@ -25,34 +28,53 @@ record-fits {n} {after} {u} {t} g =
           (omega arith, p .0);
     }
 
-fits-none : (n : ℕ) (t : List ℕ) → length t < 6 → RecordsFit n (recordsOf t)
-unfolding RecordsFit
-fits-none n t h = rw (records-none t h) tt
+-- ---- from a record on, with the control record ahead
 
-fits-more : (n : ℕ) (t : List ℕ) → 6 ≤ length t → RecordFits n t → RecordsFit n (recordsOf (restOf t)) → RecordsFit n (recordsOf t)
-unfolding RecordsFit
-fits-more n t h f r = rw (records-more t h) (f, r)
+pub record Ahead (n : ℕ) (t : List ℕ) : Type 0 where
+  pub earlier : List (List ℕ)
+  pub judged : Judged n false earlier t
 
-pub fits-split : (n : ℕ) (t : List ℕ) → 6 ≤ length t → RecordsFit n (recordsOf t) → RecordFits n t × RecordsFit n (recordsOf (restOf t))
-unfolding RecordsFit
-fits-split n t h r = rw (records-more t h) at r
+pub ahead : (n : ℕ) (t : List ℕ) → judgeTape n t ≡ Accepted → Ahead n t
+ahead n t e = record { earlier = []; judged = tape-judged n t e .1 }
 
-pub records-fit : {n : ℕ} {after : Bool} {earlier : List (List ℕ)} {t : List ℕ} → Judged n after earlier t → RecordsFit n (recordsOf t)
-records-fit {n} {after} {earlier} {t} (last g k h) =
+judged-fits : {n : ℕ} {after : Bool} {earlier : List (List ℕ)} {t : List ℕ} → Judged n after earlier t → RecordFits n t
+judged-fits (last g k h) = record-fits g
+judged-fits (more g k j) = record-fits g
+
+pub ahead-fits : (n : ℕ) (t : List ℕ) → Ahead n t → RecordFits n t
+ahead-fits n t a = judged-fits (a .judged)
+
+-- the end does not come before the control record
+judged-on : {n : ℕ} {after : Bool} {earlier : List (List ℕ)} {t : List ℕ} → Judged n after earlier t → after ≡ false → Judged n (eqb (kindOf t) 2) (t ∷ earlier) (restOf t)
+judged-on {n} {after} {earlier} {t} (last g k h) a = absurd (no-end n after _ t g k a)
+judged-on (more g k j) a = j
+
+pub ahead-on : (n : ℕ) (t : List ℕ) → Ahead n t → (kindOf t ≡ 2 → ⊥) → Ahead n (restOf t)
+ahead-on n t a o = record { earlier = t ∷ a .earlier; judged = rw (ne-eqb (kindOf t) 2 o) at (judged-on (a .judged) refl) }
+
+-- ---- the control record
+
+judged-control : {n : ℕ} {after : Bool} {earlier : List (List ℕ)} {t : List ℕ} → Judged n after earlier t → kindOf t ≡ 2 → lengthOf t ≡ 20
+judged-control {n} {after} {earlier} {t} (last g k h) e = control-length (lengthOf t) (rw e at (g .size))
+judged-control {n} {after} {earlier} {t} (more g k j) e = control-length (lengthOf t) (rw e at (g .size))
+
+pub ahead-control : (n : ℕ) (t : List ℕ) → Ahead n t → kindOf t ≡ 2 → lengthOf t ≡ 20
+ahead-control n t a e = judged-control (a .judged) e
+
+pub passed-by : (s t : List ℕ) → (kindOf t ≡ 1 → ⊥) → loadRecord s t ≡ s
+unfolding loadRecord
+passed-by s t o = rw (ne-eqb (kindOf t) 1 o)
+
+-- only the end follows it
+end-alone : {n : ℕ} {after : Bool} {earlier : List (List ℕ)} {t : List ℕ} (s : List ℕ) → Judged n after earlier t → after ≡ true → loadRecords s (recordsOf t) ≡ s
+unfolding inOrder
+end-alone {n} {after} {earlier} {t} s (last g k h) a =
     let w = g .whole in
-    fits-more n t (omega arith) (record-fits g) (fits-none n (restOf t) (omega (arith, length-rest t)))
-records-fit {n} {after} {earlier} {t} (more g k j) = let w = g .whole in fits-more n t (omega arith) (record-fits g) (records-fit j)
+    let none : length (restOf t) < 6 = omega (arith, length-rest t) in
+    load-more s t (omega arith) ∙ rw (passed-by s t (λ e. omega arith)) (load-none s (restOf t) none)
+end-alone {n} {after} {earlier} {t} s (more g k j) a = absurd (k (eqb-true (kindOf t) 3 (rw a at (g .order))))
 
--- ---- an accepted tape has a control record
-control-here : (n : ℕ) (after u : Bool) (t : List ℕ) → Good n after u t → kindOf t ≡ 2 → ControlThere t
-control-here n after u t g e =
-    let l = control-length (lengthOf t) (rw e at (g .size)) in
-    record { whole = g .whole; size = omega arith }
-
-pub control-there : {n : ℕ} {after : Bool} {earlier : List (List ℕ)} {t : List ℕ} → Judged n after earlier t → after ≡ false → ControlThere (firstOf 2 (recordsOf t))
-control-there {n} {after} {earlier} {t} (last g k h) a = absurd (no-end n after _ t g k a)
-control-there {n} {after} {earlier} {t} (more g k j) a = at (ℕ-discrete (kindOf t) 2) (control-there j)
-  where
-    at : Dec (kindOf t ≡ 2) → (eqb (kindOf t) 2 ≡ false → ControlThere (firstOf 2 (recordsOf (restOf t)))) → ControlThere (firstOf 2 (recordsOf t))
-    at (yes e) ih = let w = g .whole in rw (first-here 2 t (omega arith) e) (control-here n after _ t g e)
-    at (no e) ih = let w = g .whole in rw (first-next 2 t (omega arith) e) (ih (ne-eqb (kindOf t) 2 e))
+pub control-last : (n : ℕ) (s t : List ℕ) → Ahead n t → kindOf t ≡ 2 → loadRecords s (recordsOf t) ≡ s
+control-last n s t a e =
+    let w = ahead-fits n t a .whole in
+    load-more s t (omega arith) ∙ rw (passed-by s t (λ o. omega arith)) (end-alone s (judged-on (a .judged) refl) (eq-eqb (kindOf t) 2 e))

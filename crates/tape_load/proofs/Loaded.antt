@@ -4,7 +4,7 @@ use mathlib.Core.Path.{_≡_, refl, sym, ap, _∙_}
 use mathlib.Core.List.{List, _++_, append-nil}
 use native.Mathlib.Numerals.{add-one}
 use native.Mathlib.Omega.{arith}
-use borrow.Author.Tests.{eq-eqb, ne-eqb}
+use borrow.Author.Tests.{eq-eqb}
 use lib.ListN.{length, take, drop, getD, set, replicate, length-take, length-drop, drop-of-length-le}
 use lib.Seq.{take-suc, drop-cons, drop-drop, set-at, append-snoc, take-all}
 use Rattle.machine.specs.declared.Control.{Control}
@@ -12,13 +12,14 @@ use Rattle.machine.specs.declared.Refusal.{Refusal}
 use Rattle.machine.specs.declared.State.{State}
 use Rattle.machine.specs.declared.Verdict.{Verdict}
 use Rattle.machine.specs.declared.Verdict.the-variants.{Accepted, Rejected}
-use Rattle.definition_tape.specs.Layout.{lengthOf, kindOf, payloadOf, restOf, recordsOf, firstCell, cellCount, blockCells}
+use Rattle.definition_tape.specs.Layout.{lengthOf, kindOf, payloadOf, restOf, recordsOf, firstOf, firstCell, cellCount, blockCells, controlOf}
 use Rattle.definition_tape.specs.Load.{pasted, storedBlock, loadRecord, loadRecords, tapeCells, loadedControl, cleared, loadedBy}
 use Rattle.definition_tape.proofs.Records.{length-payload}
 use Rattle.tape_records.proofs.Lent.{tail, length-tail}
-use Rattle.definition_tape.proofs.Loads.{load-more, load-none}
-use Rattle.tape_load.specs.Fits.{RecordFits, RecordsFit, ControlThere}
-use Rattle.tape_load.proofs.Fits.{fits-split}
+use Rattle.definition_tape.proofs.Loads.{load-more}
+use Rattle.definition_tape.proofs.Firsts.{first-here, first-next}
+use Rattle.tape_load.specs.Fits.{RecordFits, ControlAt}
+use Rattle.tape_load.proofs.Fits.{Ahead, ahead-fits, ahead-on, ahead-control, passed-by, control-last}
 
 -- i cells of cs over the first ones of d, and one more
 pub paste-more : (d cs : List ℕ) (i x : ℕ) → i < length d → i < length cs → x ≡ getD cs i 0
@@ -54,19 +55,12 @@ unfolding loadRecord
 a-block k s t p r e o q i = rw (eq-eqb (kindOf t) 1 (sym e ∙ o), ← q) i
 
 pub no-block : (k : ℕ) (s t : List ℕ) → k ≡ kindOf t → (k ≡ 1 → ⊥) → s ≡ loadRecord s t
-unfolding loadRecord
-no-block k s t e o = rw (ne-eqb (kindOf t) 1 (λ z. o (e ∙ z)))
-
-pub control-size : (t p : List ℕ) → ControlThere t → p ≡ payloadOf t → 20 ≤ length p
-control-size t p h q = rw q (omega (arith, length-payload t (h .whole), h .size))
+no-block k s t e o = sym (passed-by s t (λ z. o (e ∙ z)))
 
 -- ---- the loader at the place `at` of a tape
-module _ (n : ℕ) (s t : List ℕ) (at : ℕ) (h : 6 ≤ length t - at) (f : RecordsFit n (recordsOf (drop at t))) where
-  header : 6 ≤ length (drop at t)
-  header = rw (length-drop at t) h
-
+module _ (n : ℕ) (t : List ℕ) (at : ℕ) (a : Ahead n (drop at t)) where
   pub fits-at : RecordFits n (take (length t - at) (drop at t))
-  fits-at = rw (tail at t) (fits-split n (drop at t) header f .0)
+  fits-at = rw (tail at t) (ahead-fits n (drop at t) a)
 
   pub inside-at : (r : ℕ) → r ≡ 6 + lengthOf (take (length t - at) (drop at t)) → (6 ≤ r) × (at + r ≤ length t)
   inside-at r e =
@@ -74,19 +68,52 @@ module _ (n : ℕ) (s t : List ℕ) (at : ℕ) (h : 6 ≤ length t - at) (f : Re
       let l = length-tail at t in
       (omega arith, omega arith)
 
-  rest-at : (r : ℕ) → r ≡ 6 + lengthOf (take (length t - at) (drop at t)) → restOf (drop at t) ≡ drop (at + r) t
-  unfolding restOf
-  rest-at r e = drop-drop (6 + lengthOf (drop at t)) at t ∙ ap (λ (j : ℕ). drop (at + j) t) (sym (rw (tail at t) at e))
+  six : 6 ≤ length (drop at t)
+  six = let w = ahead-fits n (drop at t) a .whole in omega arith
 
-  pub fits-on : (r : ℕ) → r ≡ 6 + lengthOf (take (length t - at) (drop at t)) → RecordsFit n (recordsOf (drop (at + r) t))
-  fits-on r e = rw (← rest-at r e) (fits-split n (drop at t) header f .1)
+  -- r bytes further on, behind a record that is not the control record
+  module _ (r k : ℕ) (e : r ≡ 6 + lengthOf (take (length t - at) (drop at t))) (q : k ≡ kindOf (take (length t - at) (drop at t))) (o : k ≡ 2 → ⊥) where
+    rest-at : restOf (drop at t) ≡ drop (at + r) t
+    unfolding restOf
+    rest-at = drop-drop (6 + lengthOf (drop at t)) at t ∙ ap (λ (j : ℕ). drop (at + j) t) (sym (rw (tail at t) at e))
 
-  pub load-on : (r : ℕ) (s′ : List ℕ) → r ≡ 6 + lengthOf (take (length t - at) (drop at t)) → s′ ≡ loadRecord s (take (length t - at) (drop at t))
-      → loadRecords s′ (recordsOf (drop (at + r) t)) ≡ loadRecords s (recordsOf (drop at t))
-  load-on r s′ e d = rw (← rest-at r e, rw (tail at t) at d) (sym (load-more s (drop at t) header))
+    other : kindOf (drop at t) ≡ 2 → ⊥
+    other z = o (q ∙ rw (tail at t) z)
 
-pub load-end : (s t : List ℕ) (at : ℕ) → length t - at < 6 → s ≡ loadRecords s (recordsOf (drop at t))
-load-end s t at h = sym (load-none s (drop at t) (rw (length-drop at t) h))
+    pub ahead-next : Ahead n (drop (at + r) t)
+    ahead-next = rw (← rest-at) (ahead-on n (drop at t) a other)
+
+    pub load-next : (s s′ : List ℕ) → s′ ≡ loadRecord s (take (length t - at) (drop at t)) → loadRecords s′ (recordsOf (drop (at + r) t)) ≡ loadRecords s (recordsOf (drop at t))
+    load-next s s′ d = rw (← rest-at, rw (tail at t) at d) (sym (load-more s (drop at t) six))
+
+    pub first-later : firstOf 2 (recordsOf (drop (at + r) t)) ≡ firstOf 2 (recordsOf (drop at t))
+    first-later = rw (← rest-at) (sym (first-next 2 (drop at t) six other))
+
+  -- at the control record
+  module _ (k : ℕ) (q : k ≡ kindOf (take (length t - at) (drop at t))) (e : k ≡ 2) where
+    this : kindOf (drop at t) ≡ 2
+    this = rw (tail at t) at (sym q ∙ e)
+
+    pub control-at : at ≤ length t → firstOf 2 (recordsOf (drop at t)) ≡ firstOf 2 (recordsOf t) → ControlAt t at
+    control-at i f =
+        let l = ahead-control n (drop at t) a this in
+        record { inside = i; first = sym (first-here 2 (drop at t) six this) ∙ f; whole = ahead-fits n (drop at t) a .whole; size = omega arith }
+
+    pub load-end : (s : List ℕ) → s ≡ loadRecords s (recordsOf (drop at t))
+    load-end s = sym (control-last n s (drop at t) a this)
+
+-- ---- the control record's payload, `&t[at..]` lent
+
+module _ (t : List ℕ) (at : ℕ) (h : ControlAt t at) where
+  pub control-whole : 6 + lengthOf (take (length t - at) (drop at t)) ≤ length (take (length t - at) (drop at t))
+  control-whole = rw (tail at t) (h .whole)
+
+  pub control-size : (p : List ℕ) → p ≡ payloadOf (take (length t - at) (drop at t)) → 20 ≤ length p
+  control-size p e = rw (e, tail at t) (omega (arith, length-payload (drop at t) (h .whole), h .size))
+
+  pub control-read : (p : List ℕ) → p ≡ payloadOf (take (length t - at) (drop at t)) → controlOf p ≡ loadedControl t
+  unfolding loadedControl
+  control-read p e = rw (e, tail at t, h .first)
 
 -- ---- the ways out: t into a store of the cells s, over those of u
 pub laid : (t u s s′ : List ℕ) (c : Control) (v : Verdict) (x : State) → v ≡ Accepted → x ≡ record { control = loadedControl t; verdict = Accepted } → s′ ≡ tapeCells u t

@@ -2,11 +2,11 @@
 ghost use mathlib.Core.Path.{_≡_};
 ghost use Prim.Native.Nat.{_+_, _*_, _≤_};
 ghost use lib.ListN.{length};
-ghost use Rattle.definition_tape.specs.Layout.{lengthOf, recordsOf, firstOf, firstCell, cellCount, cellsFrom, blockCells};
+ghost use Rattle.definition_tape.specs.Layout.{lengthOf, firstCell, cellCount, cellsFrom, blockCells};
 ghost use Rattle.machine.specs.declared.Verdict.the-variants.{Accepted};
 ghost use Rattle.definition_tape.specs.Judge.{judgeTape};
-ghost use Rattle.definition_tape.specs.Load.{pasted, storedBlock, loadRecord, loadRecords, tapeCells, loadedControl, judgeLoad, cleared, loading, overlaying};
-ghost use Rattle.tape_load.specs.Fits.{RecordFits, RecordsFit, ControlThere};
+ghost use Rattle.definition_tape.specs.Load.{pasted, storedBlock, loadRecord, tapeCells, loadedControl, judgeLoad, cleared, loading, overlaying};
+ghost use Rattle.tape_load.specs.Fits.{RecordFits, ControlAt};
 use machine::Control;
 use machine::State;
 use machine::Verdict;
@@ -52,25 +52,18 @@ fn load_record(store: &mut [u32], t: &[u8]) -> usize
     next
 }
 
-fn load_records(store: &mut [u32], tape: &[u8])
-    requires { ⌜ RecordsFit (length (now store)) (recordsOf (now tape)) ⌝ }
-    ensures { λ _. ⌜ now (store .exit) ≡ loadRecords (now (store .entry)) (recordsOf (now (tape .entry))) ⌝ }
+// The records of an accepted tape up to the control record, behind which is only the end; the answer is its place.
+fn load_blocks(store: &mut [u32], tape: &[u8]) -> usize
+    requires { ⌜ judgeTape (length (now store)) (now tape) ≡ Accepted ⌝ }
+    ensures place { λ r. ⌜ ControlAt (now (tape .entry)) r ⌝ }
+    ensures cells { λ _. ⌜ now (store .exit) ≡ tapeCells (now (store .entry)) (now (tape .entry)) ⌝ }
 {
     let mut at: usize = 0;
-    while 6 <= tape.len() - at {
+    while record_kind(&tape[at..]) != 2 {
         let n = load_record(store, &tape[at..]);
         at += n;
     }
-}
-
-// The control record of an accepted tape.
-fn loaded_control(tape: &[u8]) -> Control
-    requires { ⌜ ControlThere (firstOf 2 (recordsOf (now tape))) ⌝ }
-    ensures { λ r. ⌜ r ≡ loadedControl (now (tape .entry)) ⌝ }
-{
-    let t = tape_records::hunt(tape, 2);
-    let p = payload(t);
-    control_of(p)
+    at
 }
 
 fn judge_load(tape: &[u8], store: &[u32]) -> Verdict
@@ -89,8 +82,9 @@ fn lay(store: &mut [u32], tape: &[u8]) -> State
     ensures state { λ r. ⌜ r ≡ record { control = loadedControl (now (tape .entry)); verdict = Accepted } ⌝ }
     ensures cells { λ _. ⌜ now (store .exit) ≡ tapeCells (now (store .entry)) (now (tape .entry)) ⌝ }
 {
-    load_records(store, tape);
-    let c = loaded_control(tape);
+    let at = load_blocks(store, tape);
+    let p = payload(&tape[at..]);
+    let c = control_of(p);
     State {
         control: c,
         verdict: Verdict::Accepted,

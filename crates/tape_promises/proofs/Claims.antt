@@ -169,12 +169,12 @@ judge-same t s u l e f = rw (e, f, l)
 
 pub same-machine : SameMachine
 unfolding loading
-same-machine t s u c d l = at (judgeLoad t s) refl
+same-machine t s u c d l h f = at (judgeLoad t s) refl h
   where
-    at : (v : Verdict) → judgeLoad t s ≡ v → loadedBy v t (cleared (length s)) s c .state .verdict ≡ Accepted → cellsFit u ≡ true
+    at : (v : Verdict) → judgeLoad t s ≡ v → loadedBy v t (cleared (length s)) s c .state .verdict ≡ Accepted
         → loadedBy v t (cleared (length s)) s c ≡ loadedBy (judgeLoad t u) t (cleared (length u)) u d
-    at (Rejected q) e h f = refused h
-    at Accepted e h f = rw (sym (judge-same t s u l (store-fits s (load-judged t s e .0) .1) f) ∙ e, l)
+    at (Rejected q) e a = refused a
+    at Accepted e a = rw (sym (judge-same t s u l (store-fits s (load-judged t s e .0) .1) f) ∙ e, l)
 
 -- the tape into the cells s, and over n cells of zero
 onto-zeros : (v : Verdict) (t s : List ℕ) (c : Control) (n : ℕ)

@@ -1,23 +1,43 @@
-use mathlib.Core.Path.{refl}
-use Rattle.definition_tape.specs.Load.{tapeCells}
-use Rattle.definition_tape.proofs.Judged.{tape-judged}
-use Rattle.tape_load.proofs.Fits.{records-fit, control-there}
+use Rattle.tape_load.proofs.Loaded.{control-whole, control-size, control-read}
 use borrow.Author.Needs.{needs}
 use Rattle.tape_load.proofs.lay.Statement.{statement}
 use Rattle.tape_load.proofs.lay.Tie as tie
 
-load-records-requires : tie.Need-load-records-requires
-load-records-requires c κs = records-fit (tape-judged _ _ (c .before .before .before .pre) .1)
+load-blocks-requires : tie.Need-load-blocks-requires
+load-blocks-requires c κs = search needs
 
-loaded-control-requires : tie.Need-loaded-control-requires
-loaded-control-requires c κs = control-there (tape-judged _ _ (c .before .before .before .before .before .before .pre) .1) refl
+sub-payload : tie.Need-sub-payload
+sub-payload c = search needs
+
+part-payload-start : tie.Need-part-payload-start
+part-payload-start c = search needs
+
+part-payload-end : tie.Need-part-payload-end
+part-payload-end c = search needs
+
+payload-requires : tie.Need-payload-requires
+payload-requires c κs = control-whole _ _ (c .before .before .before .load-blocks .ensures .0)
+
+control-of-requires : tie.Need-control-of-requires
+control-of-requires c κs = control-size _ _ (c .before .before .before .before .load-blocks .ensures .0) _ (c .payload .ensures)
 
 same-length : tie.Need-same-length
 same-length c = search needs
 
 returns : tie.Need-returns
-unfolding tapeCells
-returns c = (rw (← (c .loaded-control .ensures)), c .before .before .before .load-records .ensures)
+returns c =
+    let b = c .before .before .before .before .before .load-blocks .ensures in
+    (rw (c .control-of .ensures, control-read _ _ (b .0) _ (c .before .payload .ensures)), b .1)
 
 pub lay-spec : {M : Type 1} → statement M
-lay-spec = tie.close (tie.spec load-records-requires loaded-control-requires same-length returns)
+lay-spec =
+    tie.close
+    (tie.spec
+    load-blocks-requires
+    sub-payload
+    part-payload-start
+    part-payload-end
+    payload-requires
+    control-of-requires
+    same-length
+    returns)
