@@ -19,6 +19,7 @@ use Rattle.machine.specs.declared.Verdict.the-variants.{Accepted, Rejected}
 use Rattle.machine.specs.declared.Answer.{Answer}
 use Rattle.machine.specs.declared.Answer.the-variants.{Refused, Ended}
 use Rattle.machine.specs.Answers.{verdictNumber}
+use Rattle.acceptance.proofs.Tests.{refused}
 use Rattle.acceptance.specs.Accept.{sizeFits, cellsFit, controlFits, judgeStore, judgeMachine}
 use Rattle.definition_instructions.specs.Machine.{Computer, computer, Machine}
 use Rattle.definition_runs.specs.Run.{runMachine}
@@ -36,7 +37,7 @@ use Rattle.writer_promises.specs.Claims.{tapeSize}
 use Rattle.writer_promises.proofs.Claims.{written-tape-length}
 use Rattle.capi_records.specs.declared.ControlRecord.{ControlRecord}
 use Rattle.capi_records.specs.Results.{flagsFit, controlIn, judgeFlags, runReturned, resultBy, autoloadedBy, runBy, keyBy, autoloadBy, loadBy, writeResultBy, writeBy, runCall, resetCall, startCall, autoloadCall, loadCall, overlayCall, writeCall}
-use Rattle.capi_promises.specs.Claims.{numberOf, fitsLent, RunNumbers, AutoloadCallNumbers, WriteNumbers, WriteAccepted, RunAsGiven, StateAsGiven, AutoloadAsGiven, WriteAsGiven, RefusedAsGiven}
+use Rattle.capi_promises.specs.Claims.{numberOf, fitsLent, RunNumbers, AutoloadCallNumbers, WriteNumbers, WriteAccepted, HandsBack, LoadCalls, RunAsGiven, StateAsGiven, AutoloadAsGiven, WriteAsGiven, RefusedAsGiven}
 
 -- ---- the numbers of a run
 
@@ -188,6 +189,14 @@ autoload-by Accepted Accepted s r d cs n = λ z. absurd (z refl)
 load-by : (v : Verdict) (tape u s : List ℕ) (r : ControlRecord) (c : Control) → StateAsGiven s r (loadBy r (loadedBy v tape u s c))
 load-by (Rejected q) tape u s r c = λ _. (refl, refl)
 load-by Accepted tape u s r c = λ z. absurd (z refl)
+
+handed-back : (v : Verdict) (tape u s : List ℕ) (r : ControlRecord) (c : Control) → HandsBack (loadedBy v tape u s c) (loadBy r (loadedBy v tape u s c))
+handed-back (Rejected q) tape u s r c = record { cells = refl; number = refl; control = λ e. refused e }
+handed-back Accepted tape u s r c = record { cells = refl; number = refl; control = λ e. refl }
+
+pub load-calls : LoadCalls
+unfolding loadCall overlayCall loading overlaying
+load-calls t s r = (handed-back (judgeLoad t s) t (cleared (length s)) s r (controlIn r), handed-back (judgeLoad t s) t s s r (controlIn r))
 
 write-by : (v w : Verdict) (t o : List ℕ) → WriteAsGiven o (writeBy v o (writingBy w t o))
 write-by (Rejected q) w t o = λ _. (refl, refl)

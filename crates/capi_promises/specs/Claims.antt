@@ -7,14 +7,17 @@ use mathlib.Core.List.{List}
 use lib.Dec.{eqb, ltb, leb}
 use lib.ListN.{length}
 use Rattle.machine.specs.declared.Devices.{Devices}
+use Rattle.machine.specs.declared.Verdict.the-variants.{Accepted}
+use Rattle.machine.specs.Answers.{verdictNumber}
 use Rattle.acceptance.specs.Accept.{sizeFits, cellsFit, controlFits, devicesFit}
+use Rattle.definition_tape.specs.Load.{Loaded, loading, overlaying}
 use Rattle.definition_tape.specs.Writing.{remarkOf, remarkFits, writing}
 use Rattle.writer_promises.specs.Claims.{tapeSize}
 use Rattle.capi_records.specs.declared.ControlRecord.{ControlRecord}
 use Rattle.capi_records.specs.declared.CallResult.{CallResult}
 use Rattle.capi_records.specs.declared.StateResult.{StateResult}
 use Rattle.capi_records.specs.declared.AutoloadResult.{AutoloadResult}
-use Rattle.capi_records.specs.Results.{flagsFit, controlIn, Returned, RunReturned, WriteReturned, runCall, resetCall, startCall, autoloadCall, loadCall, overlayCall, writeCall}
+use Rattle.capi_records.specs.Results.{flagsFit, controlIn, recordOf, Returned, RunReturned, WriteReturned, runCall, resetCall, startCall, autoloadCall, loadCall, overlayCall, writeCall}
 
 -- the number of a run's refusal, 0 where the run is not refused
 abbrev pub numberOf : CallResult → ℕ
@@ -71,6 +74,17 @@ WriteAccepted =
     (s : List ℕ) (r : ControlRecord) (g : ℕ) (m o : List ℕ) → writeCall s r g m o .result .refusal ≡ 0
     → let w = writing s (controlIn r) (remarkOf (not (eqb g 0)) m) o in
     (writeCall s r g m o .result .length ≡ w .answer .length) × (writeCall s r g m o .bytes ≡ w .bytes)
+
+-- y hands back what x does: every cell, the refusal's number or 0, and the control record of an accepted tape
+pub record HandsBack (x : Loaded) (y : Returned StateResult) : Type 0 where
+  pub cells : y .cells ≡ x .cells
+  pub number : y .result .refusal ≡ verdictNumber (x .state .verdict)
+  pub control : x .state .verdict ≡ Accepted → y .result .control ≡ recordOf (x .state .control)
+
+-- `load-calls`: the C calls hand back what `loading` and `overlaying` do
+abbrev pub LoadCalls : Type 0
+LoadCalls =
+    (t s : List ℕ) (r : ControlRecord) → HandsBack (loading t s (controlIn r)) (loadCall t s r) × HandsBack (overlaying t s (controlIn r)) (overlayCall t s r)
 
 -- a refused run: the control record byte for byte, every cell, the device buffer registers and every byte of the typing buffer as they came; counts,
 -- taken and typed zero

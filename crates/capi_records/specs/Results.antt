@@ -176,7 +176,7 @@ autoloadBy Accepted r d s x = returned (autoloadedBy (x .key .verdict) r d (x .k
 unfoldable pub autoloadCall : List ℕ → ControlRecord → Devices → List ℕ → Returned AutoloadResult
 autoloadCall s r d cs = autoloadBy (judgeFlags s r) r d s (autoloadLent s (controlIn r) d cs)
 
--- the given record is not tested (docs/DECISIONS.md E4)
+-- a load and an overlay do not test the given record (docs/DECISIONS.md, decision E4)
 abbrev pub loadBy : ControlRecord → Loaded → Returned StateResult
 loadBy r x = returned (stateBy (x .state .verdict) r (x .state .control)) (x .cells)
 

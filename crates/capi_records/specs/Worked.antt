@@ -87,7 +87,7 @@ untested = (refl, refl)
 abbrev freshBytes : ControlRecord
 freshBytes = record { ic = 0; ir = 0; im = 0; pending = 0; pr = 128; ex = 0; monitor = 1; enabled = 0; reset = 1 }
 
-load-accepted : loadCall scopeTape oldCells (bytes 2 2 2) ≡ returned (record { control = freshBytes; refusal = 0 }) (replicate 8 0)
+load-accepted : loadCall scopeTape oldCells (bytes 2 2 2) ≡ returned (record { control = freshBytes; refusal = 0 }) (replicate 9 0)
 unfolding loadCall recordOf flagByte opened
 load-accepted = refl
 

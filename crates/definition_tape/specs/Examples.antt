@@ -91,12 +91,12 @@ bytes-tape c = refl
 
 -- words and keys in every cell
 abbrev pub oldCells : List ℕ
-oldCells = 117440513 ∷ 2 ∷ 16777219 ∷ 4 ∷ 5 ∷ 50331654 ∷ 7 ∷ 33554440 ∷ []
+oldCells = 117440513 ∷ 2 ∷ 16777219 ∷ 4 ∷ 5 ∷ 50331654 ∷ 7 ∷ 33554440 ∷ 83886089 ∷ []
 
--- a load clears the six cells that no block names, words and keys; an overlay keeps them; the control record is the tape's by both
+-- a load clears the seven cells that no block names, words and keys; an overlay keeps them; the control record is the tape's by both
 pub cleared-and-kept : (c : Control)
-    → (loading blockTape oldCells c ≡ record { cells = 0 ∷ 0 ∷ 0 ∷ 0 ∷ 0 ∷ 0 ∷ 5 ∷ 117440518 ∷ []; state = record { control = freshRecord; verdict = Accepted } })
-    × (overlaying blockTape oldCells c ≡ record { cells = 117440513 ∷ 2 ∷ 16777219 ∷ 4 ∷ 5 ∷ 50331654 ∷ 5 ∷ 117440518 ∷ []; state = record { control = freshRecord; verdict = Accepted } })
+    → (loading blockTape oldCells c ≡ record { cells = 0 ∷ 0 ∷ 0 ∷ 0 ∷ 0 ∷ 0 ∷ 5 ∷ 117440518 ∷ 0 ∷ []; state = record { control = freshRecord; verdict = Accepted } })
+    × (overlaying blockTape oldCells c ≡ record { cells = 117440513 ∷ 2 ∷ 16777219 ∷ 4 ∷ 5 ∷ 50331654 ∷ 5 ∷ 117440518 ∷ 83886089 ∷ []; state = record { control = freshRecord; verdict = Accepted } })
 unfolding opened
 cleared-and-kept c = (refl, refl)
 
@@ -108,10 +108,14 @@ unfolding opened
 refused-as-given c = (refl, refl)
 
 -- 2 is tested on the store as it came, though the cell would be cleared
-pub cell-as-it-came : (c : Control)
-    → (loading scopeTape (134217728 ∷ replicate 7 0) c .state .verdict ≡ Rejected CellValue) × (overlaying scopeTape (134217728 ∷ replicate 7 0) c .state .verdict ≡ Rejected CellValue)
+abbrev pub badCells : List ℕ
+badCells = 134217728 ∷ oldCells
+
+pub cells-as-they-came : (c : Control)
+    → (loading scopeTape badCells c ≡ record { cells = badCells; state = record { control = c; verdict = Rejected CellValue } })
+    × (overlaying scopeTape badCells c ≡ record { cells = badCells; state = record { control = c; verdict = Rejected CellValue } })
 unfolding opened
-cell-as-it-came c = (refl, refl)
+cells-as-they-came c = (refl, refl)
 
 -- ---- 17
 

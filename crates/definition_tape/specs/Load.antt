@@ -53,7 +53,7 @@ pub record Loaded : Type 0 where
   pub cells : List ℕ
   pub state : State
 
--- accepted: the tape's cells over those of u, and its control record. On a refusal store and control record come back as given
+-- accepted: the tape's cells over those of u, and its control record; refused: the store s and the control record c as given
 abbrev pub loadedBy : Verdict → List ℕ → List ℕ → List ℕ → Control → Loaded
 loadedBy (Rejected r) t u s c = record { cells = s; state = record { control = c; verdict = Rejected r } }
 loadedBy Accepted t u s c = record { cells = tapeCells u t; state = record { control = loadedControl t; verdict = Accepted } }

@@ -15,13 +15,14 @@ use Rattle.acceptance.proofs.Tests.{passed, refused}
 use Rattle.acceptance.specs.Accept.{sizeFits, cellsFit, judgeStore, judgeMachine}
 use Rattle.definition_tape.specs.Layout.{recordsOf}
 use Rattle.definition_tape.specs.Judge.{judgeTape, timesNamed}
-use Rattle.definition_tape.specs.Load.{loadRecords, tapeCells, loadedControl, judgeThen, judgeLoad, loadedBy, cleared, loading, overlaying}
+use Rattle.definition_tape.specs.Load.{Loaded, loadRecords, tapeCells, loadedControl, judgeThen, judgeLoad, loadedBy, cleared, loading, overlaying}
 use Rattle.definition_tape.specs.Remark.{judgeReading, remarkSpan, remarkText}
 use Rattle.definition_tape.proofs.Judged.{judged-back, tape-judged, passed-then}
+use Rattle.definition_tape.proofs.Machines.{machine}
 use Rattle.definition_tape.proofs.Remarks.{remark-part as part}
-use Rattle.tape_promises.specs.Grammar.{TapeFor, blocksOf}
+use Rattle.tape_promises.specs.Grammar.{Records, TapeFor, blocksOf}
 use Rattle.tape_promises.specs.Contents.{SameBlocks}
-use Rattle.tape_promises.specs.Claims.{AcceptedTapes, NoCellTwice, Call, load, overlay, called, unnamedCell, LoadedFrom, LoadsLayout, UnnamedCells, SameMachine, LoadIsOverlay, BorderOverGround, AnyOrder, AcceptedInAnyOrder, KeptSize, KeptAll, LoadedMachines, SameVerdict, FirstRemark, RemarkPart}
+use Rattle.tape_promises.specs.Claims.{AcceptedTapes, NoCellTwice, Call, load, overlay, called, unnamedCell, LoadedFrom, OverlaidFrom, LoadsLayout, UnnamedCells, SameMachine, LoadIsOverlay, BorderOverGround, AnyOrder, AcceptedInAnyOrder, KeptSize, KeptAll, LoadedMachines, SameVerdict, FirstRemark, RemarkPart}
 use Rattle.tape_promises.proofs.Grammars.{grammar, judged-of}
 use Rattle.tape_promises.proofs.Once.{judged-once, once-blocks, blocks-once, once-order, names-two}
 use Rattle.tape_promises.proofs.Contents.{only-kept, same-cell, size-loaded, cells-loaded, cells-fit, control-is, control-payload-good, control-fields, span-is, text-is}
@@ -57,7 +58,7 @@ unfolding judgeLoad
 load-accepted {n} t s e h z = rw (e, ← z) (accepted-tapes n t .1 h)
 
 -- the cells u that lie under the tape's
-under : Call → List ℕ → List ℕ
+pub under : Call → List ℕ → List ℕ
 under load s = cleared (length s)
 under overlay s = s
 
@@ -66,7 +67,7 @@ unfolding under cleared
 size-under load s = sym (length-replicate {A = ℕ} (length s) 0)
 size-under overlay s = refl
 
-called-is : (k : Call) (t s : List ℕ) (c : Control) → called k t s c ≡ loadedBy (judgeLoad t s) t (under k s) s c
+pub called-is : (k : Call) (t s : List ℕ) (c : Control) → called k t s c ≡ loadedBy (judgeLoad t s) t (under k s) s c
 unfolding under loading overlaying
 called-is load t s c = refl
 called-is overlay t s c = refl
@@ -177,35 +178,37 @@ same-machine t s u c d l h f = at (judgeLoad t s) refl h
     at Accepted e a = rw (sym (judge-same t s u l (store-fits s (load-judged t s e .0) .1) f) ∙ e, l)
 
 -- the tape into the cells s, and over n cells of zero
-onto-zeros : (v : Verdict) (t s : List ℕ) (c : Control) (n : ℕ)
+onto-zeros : (v w : Verdict) (t s : List ℕ) (c : Control) (n : ℕ) → w ≡ v
     → let x = loadedBy v t (cleared n) s c in
-    let y = loadedBy v t (replicate n 0) (replicate n 0) c in
+    let y = loadedBy w t (replicate n 0) (replicate n 0) c in
     (x .state ≡ y .state) × (x .state .verdict ≡ Accepted → x .cells ≡ y .cells)
 unfolding cleared
-onto-zeros (Rejected q) t s c n = (refl, λ h. refused h)
-onto-zeros Accepted t s c n = (refl, λ h. refl)
+onto-zeros (Rejected q) w t s c n e = rw e (refl, λ h. refused h)
+onto-zeros Accepted w t s c n e = rw e (refl, λ h. refl)
 
 pub load-is-overlay : LoadIsOverlay
 unfolding loading overlaying
 load-is-overlay t s c e =
     let n = length s in
-    rw (← judge-same t s (replicate n 0) (sym (length-replicate {A = ℕ} n 0)) e (fit-zeros n)) (onto-zeros (judgeLoad t s) t s c n)
+    onto-zeros (judgeLoad t s) _ t s c n (judge-same t (replicate n 0) s (length-replicate {A = ℕ} n 0) (fit-zeros n) e)
 
 machine-store : (s : List ℕ) (c : Control) → judgeMachine s c ≡ Accepted → judgeStore s ≡ Accepted
-unfolding judgeMachine judgeStore
-machine-store s c e =
-    let a = passed (sizeFits (length s)) _ StoreSize e in
-    rw (a .0, passed (cellsFit s) _ CellValue (a .1) .0)
+unfolding judgeStore
+machine-store s c e = let h = machine s c e in rw (h .fits, h .cells)
+
+-- a tape over what a load left
+over-loaded : {n : ℕ} {t : List ℕ} {r : Records n t} (u : List ℕ) (x : Loaded) (d : Control) → LoadedFrom r (λ i. 0) x → judgeStore (x .cells) ≡ Accepted
+    → (h : TapeFor n u) → OverlaidFrom r (h .layout) (overlaying u (x .cells) d)
+unfolding overlaying
+over-loaded u x d g e h =
+    let y = over u (x .cells) (x .cells) d h (sym (g .size)) in
+    rw (load-accepted u (x .cells) e h (sym (g .size)))
+    (record { accepted = y .accepted; size = y .size; cells = λ i. record { below = getD (x .cells) i 0; by-ground = g .cells i; by-border = y .cells i }; control = y .control })
 
 pub border-over-ground : BorderOverGround
-unfolding under
-border-over-ground t u s c e h k =
-    let x = loading t s c in
+border-over-ground t u s c d e h k =
     let g = loads-layout load t s c e h in
-    let a = load-accepted u (x .cells) (machine-store (x .cells) (x .state .control) (loaded-machines load t s c (g .accepted))) k (sym (g .size)) in
-    let y = over u (x .cells) (x .cells) (x .state .control) k (sym (g .size)) in
-    rw (called-is overlay u (x .cells) (x .state .control), a)
-    (record { accepted = y .accepted; size = y .size; cells = λ i. record { below = getD (x .cells) i 0; by-ground = g .cells i; by-border = y .cells i }; control = y .control })
+    over-loaded u (loading t s c) d g (machine-store (loading t s c .cells) (loading t s c .state .control) (loaded-machines load t s c (g .accepted))) k
 
 -- ---- the reader of the first remark
 

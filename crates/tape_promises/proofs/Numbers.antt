@@ -19,14 +19,15 @@ use Rattle.acceptance.proofs.Tests.{refused}
 use Rattle.acceptance.specs.Accept.{sizeFits, cellsFit, judgeStore}
 use Rattle.definition_tape.specs.Layout.{lengthOf, kindOf, payloadOf, restOf, recordsOf, firstOf, firstCell, cellCount, blockCells}
 use Rattle.definition_tape.specs.Judge.{kindKnown, inOrder, lengthFits, judgeBlock, controlGood, judgeControl, judgePayload, judgeRecord, names, timesNamed, unnamedCells, judgeAfter, judgeRecords, judgeTape}
-use Rattle.definition_tape.specs.Load.{judgeThen, judgeLoad, loadedBy, cleared, loading, overlaying}
+use Rattle.definition_tape.specs.Load.{judgeThen, judgeLoad, loadedBy}
 use Rattle.definition_tape.specs.Remark.{judgeReading, noSpan, spanAt, spanBy, remarkSpan, textBy, remarkText}
 use Rattle.definition_tape.proofs.Records.{length-rest, length-payload}
 use Rattle.definition_tape.proofs.Judged.{block-length, control-length, end-length, remark-length, no-records, a-record}
 use Rattle.definition_tape.proofs.Named.{names-cell, cell-named, unnamed-true, unnamed-false}
 use Rattle.tape_promises.specs.Grammar.{ControlPayload}
 use Rattle.tape_promises.specs.Numbers.{Test, met, unmet, passed, OutOfOrder, LengthFor, SomeNames, NamesAgain, RecordRefused, RecordsRefused, this-one, later-one, TapeRefused, SizeRefused, LoadRefused, ReadingRefused}
-use Rattle.tape_promises.specs.Claims.{Call, load, overlay, called, TapeNumbers, LoadNumbers, ReadingNumbers}
+use Rattle.tape_promises.specs.Claims.{Call, called, TapeNumbers, LoadNumbers, ReadingNumbers}
+use Rattle.tape_promises.proofs.Claims.{under, called-is}
 use Rattle.tape_promises.proofs.Grammars.{control-payload-of, control-good}
 
 -- m is the number that P allows, 0 where it allows none
@@ -343,9 +344,7 @@ verdict-by (Rejected q) t u s c = refl
 verdict-by Accepted t u s c = refl
 
 verdict-is : (k : Call) (t s : List ℕ) (c : Control) → called k t s c .state .verdict ≡ judgeLoad t s
-unfolding loading overlaying
-verdict-is load t s c = verdict-by (judgeLoad t s) t (cleared (length s)) s c
-verdict-is overlay t s c = verdict-by (judgeLoad t s) t s s c
+verdict-is k t s c = rw (called-is k t s c) (verdict-by (judgeLoad t s) t (under k s) s c)
 
 pub load-numbers : LoadNumbers
 load-numbers k t s c q = rw (verdict-is k t s c) (exactly (judgeLoad t s) (LoadRefused s t) q (load-gives t s))

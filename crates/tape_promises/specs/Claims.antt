@@ -64,7 +64,8 @@ UnnamedCells =
     (k : Call) (t s : List ℕ) (c : Control) → judgeStore s ≡ Accepted → (h : TapeFor (length s) t) (i : ℕ) → (Named i (blocksOf (h .layout)) → ⊥)
     → getD (called k t s c .cells) i 0 ≡ unnamedCell k s i
 
--- after a load the machine depends on the tape and the number of cells alone: it is the same for two stores of one size, whatever they held
+-- after a load the machine depends on the tape and the number of cells alone: it is the same for two stores of one size, whatever they held that 2
+-- lets pass
 abbrev pub SameMachine : Type 0
 SameMachine = (t s u : List ℕ) (c d : Control) → length s ≡ length u → loading t s c .state .verdict ≡ Accepted → cellsFit u ≡ true → loading t s c ≡ loading t u d
 
@@ -85,10 +86,10 @@ pub record OverlaidFrom {n : ℕ} {t u : List ℕ} (ground : Records n t) (borde
 -- the load of a ground tape, then the overlay of a border tape: what the second's blocks over the first's say
 abbrev pub BorderOverGround : Type 0
 BorderOverGround =
-    (t u s : List ℕ) (c : Control) → judgeStore s ≡ Accepted → (ground : TapeFor (length s) t) (border : TapeFor (length s) u)
-    → let x = loading t s c in OverlaidFrom (ground .layout) (border .layout) (overlaying u (x .cells) (x .state .control))
+    (t u s : List ℕ) (c d : Control) → judgeStore s ≡ Accepted → (ground : TapeFor (length s) t) (border : TapeFor (length s) u)
+    → OverlaidFrom (ground .layout) (border .layout) (overlaying u (loading t s c .cells) d)
 
--- the order of the blocks does not matter: two accepted tapes with the same blocks load the same cells
+-- the order of the blocks does not matter: two accepted tapes with the same blocks leave the same cells
 abbrev pub AnyOrder : Type 0
 AnyOrder =
     (k : Call) (t u s : List ℕ) (c d : Control) (h : TapeFor (length s) t) (j : TapeFor (length s) u) → SameBlocks (blocksOf (h .layout)) (blocksOf (j .layout))

@@ -25,7 +25,7 @@ pub record TheOne (bs : List Block) (i : ℕ) (b : Block) : Type 0 where
   pub names : Names b i
   pub only : (a : Block) → Among a bs → Names a i → a ≡ b
 
--- the cell i, which held `held`, holds x after the blocks: what the one that names it has there, or, where none does, what it held
+-- the cell i, with `held` under the blocks, holds x: what the one that names it has there, or, where none does, what is under them
 pub data Holds (i held : ℕ) (bs : List Block) : ℕ → Type 0 where
   written : (b : Block) → TheOne bs i b → Holds i held bs (getD (b .cells) (i - b .first) 0)
   kept : (Named i bs → ⊥) → Holds i held bs held

@@ -104,7 +104,7 @@ WrittenTapeLength = (s : List ℕ) (c : Control) (m : Option (List ℕ)) → len
 abbrev pub GoodTape : Type 0
 GoodTape = (s : List ℕ) (c : Control) (m : Option (List ℕ)) → Writable s c m → judgeTape (length s) (tapeOf s c m) ≡ Accepted
 
--- loading the tape into any store of equal size gives the same machine, and the reader gives the same remark, or none
+-- loading the tape into any store of equal size, whatever it held that 2 lets pass, gives the same machine, and the reader gives the same remark, or none
 abbrev pub RoundTrip : Type 0
 RoundTrip =
     (s u : List ℕ) (c d : Control) (m : Option (List ℕ)) → Writable s c m → length u ≡ length s → cellsFit u ≡ true
