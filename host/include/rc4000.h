@@ -230,7 +230,8 @@ rc4000_autoloaded rc4000_press_autoload(uint32_t *store, size_t cells, rc4000_co
  * that no block names becomes 0, word and key, cells 0 to 7 included. Use it to
  * change carpets: nothing of the old one stays. The control record that comes
  * back is the tape's; the one given is not tested. A tape that is refused clears
- * nothing. Takes up to 540 KB of stack. */
+ * nothing, and a store with a cell of 134217728 or more is refused as it is.
+ * Takes up to 48 KB of stack. */
 rc4000_state rc4000_load(uint32_t *store, size_t cells, rc4000_control control,
                          const uint8_t *tape, size_t length);
 
@@ -241,14 +242,15 @@ rc4000_state rc4000_overlay(uint32_t *store, size_t cells, rc4000_control contro
                             const uint8_t *tape, size_t length);
 
 /* The first remark of a tape that loads into a store of this many cells; else the
- * refusal is the load's. Takes up to 540 KB of stack. */
+ * refusal is the load's. Takes up to 260 KB of stack. */
 rc4000_text rc4000_remark(const uint8_t *tape, size_t length, size_t cells);
 
 /* Writes the tape of a machine into a buffer of `space` bytes, whose bytes
  * behind the tape are kept. `given` 0: no remark; else the remark is `text`, at
  * most 255 bytes, also where it is empty. Store and record are only read.
- * rc4000_load into as many cells gives the same store and record, and
- * rc4000_remark the same remark; the device buffer registers are not on a tape. */
+ * rc4000_load into as many cells, none of 134217728 or more, gives the same store
+ * and record, and rc4000_remark the same remark; the device buffer registers are
+ * not on a tape. */
 rc4000_written rc4000_write(const uint32_t *store, size_t cells, rc4000_control control,
                             uint8_t given, const uint8_t *text, size_t text_length, uint8_t *tape,
                             size_t space);

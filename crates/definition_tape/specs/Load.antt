@@ -1,4 +1,4 @@
--- What a tape loads: cells and control record (document 01, "Load tape"). The whole tape is judged before a cell changes.
+-- What a tape loads: cells and control record (document 01, "Load tape"; document 02, E5). The whole tape is judged before a cell changes.
 -- Assumes nothing.
 use Prim.Native.Nat.{ℕ}
 use mathlib.Core.Bool.{cond}
@@ -38,14 +38,14 @@ tapeCells s t = loadRecords s (recordsOf t)
 unfoldable pub loadedControl : List ℕ → Control
 loadedControl t = controlOf (payloadOf (firstOf 2 (recordsOf t)))
 
--- ---- loading (document 02, E5)
+-- ---- load and overlay
 
 -- 1 and 2, then the tape
 abbrev pub judgeThen : Verdict → Verdict → Verdict
 judgeThen (Rejected r) v = Rejected r
 judgeThen Accepted v = v
 
--- the refusals of a load, the store's first
+-- the refusals of both, the store's first
 unfoldable pub judgeLoad : List ℕ → List ℕ → Verdict
 judgeLoad t s = judgeThen (judgeStore s) (judgeTape (length s) t)
 
@@ -62,7 +62,7 @@ loadedBy Accepted t u s c = record { cells = tapeCells u t; state = record { con
 unfoldable pub cleared : ℕ → List ℕ
 cleared n = replicate n 0
 
--- load: the tape t into a store of the cells s, with the caller's control record c; its cells over zero
+-- load: the tape t into a store of the cells s, with the caller's control record c; its cells over zero (document 02, E5)
 unfoldable pub loading : List ℕ → List ℕ → Control → Loaded
 loading t s c = loadedBy (judgeLoad t s) t (cleared (length s)) s c
 

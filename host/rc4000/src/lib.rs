@@ -166,8 +166,9 @@ pub fn remark(tape: &[u8], cells: usize) -> Result<Option<&[u8]>, Refusal> {
 /// are kept, and gives the tape's length. A remark has at most 255 bytes; an
 /// empty one is written too. Store and control record are only read.
 ///
-/// [`load`] of these bytes into as many cells gives the same store and control
-/// record. The device buffer registers are not on a tape.
+/// [`load`] of these bytes into as many cells, none of 134,217,728 or more,
+/// gives the same store and control record. The device buffer registers are
+/// not on a tape.
 pub fn write(
     store: &[u32],
     control: Control,

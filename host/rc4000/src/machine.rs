@@ -43,8 +43,9 @@ impl Machine {
     }
 
     /// The machine's tape, with this remark first where one is given. Loaded
-    /// into a machine with as many cells it gives this store and control
-    /// record; the device buffer registers are not on it.
+    /// into a machine with as many cells, none of 134,217,728 or more, it gives
+    /// this store and control record; the device buffer registers are not on
+    /// it.
     pub fn write(&self, remark: Option<&[u8]>) -> Result<Vec<u8>, Refusal> {
         let mut tape = vec![0; LONGEST_TAPE];
         let length = crate::write(&self.store, self.control, remark, &mut tape)?;
