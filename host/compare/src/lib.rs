@@ -28,7 +28,7 @@ pub use tapes::{Damage, DAMAGES};
 pub use words::{assemble, WORD};
 pub use writes::LAST_RECORDS;
 
-use loads::{done_again, zeros, Laid};
+use loads::{changes, done_again, old_cells, Laid};
 use protocol::{Answer, FrontEnd, Machine, Request, Write};
 use std::fmt;
 
@@ -133,8 +133,8 @@ fn same(
     }))
 }
 
-/// For a written tape: its load into as many cells of zero and the reading of
-/// its remark, with the answers that they must have.
+/// For a written tape: its load into as many cells, some of them in use, and the
+/// reading of its remark, with the answers that they must have.
 fn loaded_again(request: &Request, answer: &Answer) -> Option<[(Request, Answer); 2]> {
     let (Request::Write(write), Answer::Written(tape)) = (request, answer) else {
         return None;
@@ -145,15 +145,14 @@ fn loaded_again(request: &Request, answer: &Answer) -> Option<[(Request, Answer)
         remark,
         ..
     } = write;
-    let load = Request::Load {
-        store: zeros(store.size),
-        tape: tape.clone(),
-    };
-    let mut changed = store.cells.clone();
-    changed.retain(|&(_, value)| value != 0);
+    let old = old_cells(store.size);
     let loaded = Answer::Done {
         control: *control,
-        changed,
+        changed: changes(&old, store),
+    };
+    let load = Request::Load {
+        store: old,
+        tape: tape.clone(),
     };
     let read = Request::Remark {
         cells: store.size,

@@ -48,8 +48,15 @@ pub fn held(store: &Listed, index: usize) -> u32 {
     place.map_or(0, |place| store.cells[place].1)
 }
 
+/// So many cells, with word and key in the first and the last of them.
+pub fn old_cells(size: usize) -> Listed {
+    let ends = (0..size.min(64)).chain(64.max(size.saturating_sub(64))..size);
+    let cells = ends.map(|index| (index, 0x0700_0001)).collect();
+    Listed { size, cells }
+}
+
 /// So many cells of zero.
-pub fn zeros(size: usize) -> Listed {
+fn zeros(size: usize) -> Listed {
     let cells = Vec::new();
     Listed { size, cells }
 }
@@ -68,7 +75,7 @@ fn laid_over(store: &Listed, tape: &[u8]) -> Listed {
 }
 
 /// The cells that differ, with what they hold afterwards.
-fn changes(before: &Listed, after: &Listed) -> Vec<(usize, u32)> {
+pub fn changes(before: &Listed, after: &Listed) -> Vec<(usize, u32)> {
     let cleared = before.cells.iter().map(|&(index, _)| (index, 0));
     let mut cells: BTreeMap<usize, u32> = cleared.collect();
     cells.extend(after.cells.iter().copied());
