@@ -136,7 +136,7 @@ fn key(random: &mut Random, reset: bool) -> Request {
     }
 }
 
-/// A machine to load a tape into; in one of two every cell is in use.
+/// A machine to load a tape into; in one of two, or more, every cell is in use.
 fn image_for_tape(random: &mut Random) -> Image {
     let mut image = machines::image(random);
     if random.one_in(2) {
