@@ -36,8 +36,8 @@ use Rattle.tape_promises.proofs.Numbers.{positive}
 use Rattle.writer_promises.specs.Claims.{tapeSize}
 use Rattle.writer_promises.proofs.Claims.{written-tape-length}
 use Rattle.capi_records.specs.declared.ControlRecord.{ControlRecord}
-use Rattle.capi_records.specs.Results.{flagsFit, controlIn, judgeFlags, runReturned, resultBy, autoloadedBy, runBy, keyBy, autoloadBy, loadBy, writeResultBy, writeBy, runCall, resetCall, startCall, autoloadCall, loadCall, overlayCall, writeCall}
-use Rattle.capi_promises.specs.Claims.{numberOf, fitsLent, RunNumbers, AutoloadCallNumbers, WriteNumbers, WriteAccepted, HandsBack, LoadCalls, RunAsGiven, StateAsGiven, AutoloadAsGiven, WriteAsGiven, RefusedAsGiven}
+use Rattle.capi_records.specs.Results.{flagsFit, controlIn, recordOf, judgeFlags, returned, runReturned, resultBy, stateBy, autoloadedBy, runBy, keyBy, autoloadBy, loadBy, writeResultBy, writeBy, runCall, resetCall, startCall, autoloadCall, loadCall, overlayCall, writeCall}
+use Rattle.capi_promises.specs.Claims.{numberOf, fitsLent, RunNumbers, AutoloadCallNumbers, WriteNumbers, WriteAccepted, HandsBack, LoadCalls, KeyCalls, AutoloadCalls, RunCalls, RunAsGiven, StateAsGiven, AutoloadAsGiven, WriteAsGiven, RefusedAsGiven}
 
 -- ---- the numbers of a run
 
@@ -152,6 +152,43 @@ write-accepted s r g m o =
     let given = remarkOf (not (eqb g 0)) m in
     accepted-by (judgeFlags s r) (judgeWriting s (controlIn r) given (length o)) (tapeOf s (controlIn r) given) o
 
+-- ---- what is handed back
+
+state-back : (v : Verdict) (s : List ℕ) (r : ControlRecord) (c : Control) → HandsBack s v c (returned (stateBy v r c) s)
+state-back (Rejected q) s r c = record { cells = refl; number = refl; control = λ e. refused e }
+state-back Accepted s r c = record { cells = refl; number = refl; control = λ e. refl }
+
+pub load-calls : LoadCalls
+unfolding loadCall overlayCall
+load-calls t s r =
+    let x = loading t s (controlIn r) in
+    let y = overlaying t s (controlIn r) in
+    (state-back (x .state .verdict) (x .cells) r (x .state .control), state-back (y .state .verdict) (y .cells) r (y .state .control))
+
+pub key-calls : KeyCalls
+unfolding resetCall startCall judgeFlags
+key-calls s r e =
+    let x = pressingReset s (controlIn r) in
+    let y = pressingStart s (controlIn r) in
+    rw e (state-back (x .verdict) (x .machine .cells) r (x .machine .control), state-back (y .verdict) (y .machine .cells) r (y .machine .control))
+
+autoload-back : (v : Verdict) (r : ControlRecord) (d : Devices) (x : Autoloaded)
+    → let y = autoloadedBy v r d x in
+    (y .refusal ≡ verdictNumber v) × (v ≡ Accepted → (y .control ≡ recordOf (x .control)) × (y .devices ≡ x .devices) × (y .taken ≡ x .taken))
+autoload-back (Rejected q) r d x = (refl, λ e. refused e)
+autoload-back Accepted r d x = (refl, λ e. (refl, refl, refl))
+
+pub autoload-calls : AutoloadCalls
+unfolding autoloadCall judgeFlags
+autoload-calls s r d cs e =
+    let x = autoloadLent s (controlIn r) d cs in
+    let b = autoload-back (x .key .verdict) r d (x .key) in
+    rw e (refl, b .0, b .1)
+
+pub run-calls : RunCalls
+unfolding runCall judgeFlags
+run-calls l b s r d cs t e = rw e (refl, refl, λ o h. rw h refl)
+
 -- ---- a refusal changes nothing
 
 -- an accepted call whose answer is a refusal left everything as it was
@@ -189,14 +226,6 @@ autoload-by Accepted Accepted s r d cs n = λ z. absurd (z refl)
 load-by : (v : Verdict) (tape u s : List ℕ) (r : ControlRecord) (c : Control) → StateAsGiven s r (loadBy r (loadedBy v tape u s c))
 load-by (Rejected q) tape u s r c = λ _. (refl, refl)
 load-by Accepted tape u s r c = λ z. absurd (z refl)
-
-handed-back : (v : Verdict) (tape u s : List ℕ) (r : ControlRecord) (c : Control) → HandsBack (loadedBy v tape u s c) (loadBy r (loadedBy v tape u s c))
-handed-back (Rejected q) tape u s r c = record { cells = refl; number = refl; control = λ e. refused e }
-handed-back Accepted tape u s r c = record { cells = refl; number = refl; control = λ e. refl }
-
-pub load-calls : LoadCalls
-unfolding loadCall overlayCall loading overlaying
-load-calls t s r = (handed-back (judgeLoad t s) t (cleared (length s)) s r (controlIn r), handed-back (judgeLoad t s) t s s r (controlIn r))
 
 write-by : (v w : Verdict) (t o : List ℕ) → WriteAsGiven o (writeBy v o (writingBy w t o))
 write-by (Rejected q) w t o = λ _. (refl, refl)

@@ -2,14 +2,22 @@
 -- Assumes nothing.
 use Prim.Native.Nat.{ℕ}
 use mathlib.Core.Path.{_≡_}
-use mathlib.Core.Bool.{Bool, not, cond}
+use mathlib.Core.Bool.{Bool, true, not, cond}
 use mathlib.Core.List.{List}
 use lib.Dec.{eqb, ltb, leb}
 use lib.ListN.{length}
 use Rattle.machine.specs.declared.Devices.{Devices}
+use Rattle.machine.specs.declared.Control.{Control}
+use Rattle.machine.specs.declared.Run.{Run}
+use Rattle.machine.specs.declared.Outcome.{Outcome}
+use Rattle.machine.specs.declared.Answer.the-variants.{Ended}
+use Rattle.machine.specs.declared.Verdict.{Verdict}
 use Rattle.machine.specs.declared.Verdict.the-variants.{Accepted}
 use Rattle.machine.specs.Answers.{verdictNumber}
 use Rattle.acceptance.specs.Accept.{sizeFits, cellsFit, controlFits, devicesFit}
+use Rattle.definition_instructions.specs.Machine.{Computer}
+use Rattle.definition_runs.specs.Keys.{Pressed, pressingReset, pressingStart}
+use Rattle.definition_runs.specs.Lent.{runLent, autoloadLent}
 use Rattle.definition_tape.specs.Load.{Loaded, loading, overlaying}
 use Rattle.definition_tape.specs.Writing.{remarkOf, remarkFits, writing}
 use Rattle.writer_promises.specs.Claims.{tapeSize}
@@ -17,7 +25,7 @@ use Rattle.capi_records.specs.declared.ControlRecord.{ControlRecord}
 use Rattle.capi_records.specs.declared.CallResult.{CallResult}
 use Rattle.capi_records.specs.declared.StateResult.{StateResult}
 use Rattle.capi_records.specs.declared.AutoloadResult.{AutoloadResult}
-use Rattle.capi_records.specs.Results.{flagsFit, controlIn, recordOf, Returned, RunReturned, WriteReturned, runCall, resetCall, startCall, autoloadCall, loadCall, overlayCall, writeCall}
+use Rattle.capi_records.specs.Results.{flagsFit, controlIn, recordOf, outcomeCode, outcomeNumber, Returned, RunReturned, WriteReturned, runCall, resetCall, startCall, autoloadCall, loadCall, overlayCall, writeCall}
 
 -- the number of a run's refusal, 0 where the run is not refused
 abbrev pub numberOf : CallResult → ℕ
@@ -75,16 +83,64 @@ WriteAccepted =
     → let w = writing s (controlIn r) (remarkOf (not (eqb g 0)) m) o in
     (writeCall s r g m o .result .length ≡ w .answer .length) × (writeCall s r g m o .bytes ≡ w .bytes)
 
--- y hands back what x does: every cell, the refusal's number or 0, and the control record of an accepted tape
-pub record HandsBack (x : Loaded) (y : Returned StateResult) : Type 0 where
-  pub cells : y .cells ≡ x .cells
-  pub number : y .result .refusal ≡ verdictNumber (x .state .verdict)
-  pub control : x .state .verdict ≡ Accepted → y .result .control ≡ recordOf (x .state .control)
+-- ---- what a call hands back that its flag bytes do not refuse
 
--- `load-calls`: the C calls hand back what `loading` and `overlaying` do
+-- a key or a tape: the cells s, the refusal's number or 0, and the control record c where the call is accepted
+pub record HandsBack (s : List ℕ) (v : Verdict) (c : Control) (y : Returned StateResult) : Type 0 where
+  pub cells : y .cells ≡ s
+  pub number : y .result .refusal ≡ verdictNumber v
+  pub control : v ≡ Accepted → y .result .control ≡ recordOf c
+
+abbrev pub HandsBackLoaded : Loaded → Returned StateResult → Type 0
+HandsBackLoaded x y = HandsBack (x .cells) (x .state .verdict) (x .state .control) y
+
+-- `load-calls`: load and overlay hand back what `loading` and `overlaying` do, with any flag bytes
 abbrev pub LoadCalls : Type 0
 LoadCalls =
-    (t s : List ℕ) (r : ControlRecord) → HandsBack (loading t s (controlIn r)) (loadCall t s r) × HandsBack (overlaying t s (controlIn r)) (overlayCall t s r)
+    (t s : List ℕ) (r : ControlRecord)
+    → HandsBackLoaded (loading t s (controlIn r)) (loadCall t s r) × HandsBackLoaded (overlaying t s (controlIn r)) (overlayCall t s r)
+
+abbrev pub HandsBackPressed : Pressed Computer → Returned StateResult → Type 0
+HandsBackPressed x y = HandsBack (x .machine .cells) (x .verdict) (x .machine .control) y
+
+-- `key-calls`: the reset key and the start key hand back what `pressingReset` and `pressingStart` do
+abbrev pub KeyCalls : Type 0
+KeyCalls =
+    (s : List ℕ) (r : ControlRecord) → flagsFit r ≡ true
+    → HandsBackPressed (pressingReset s (controlIn r)) (resetCall s r) × HandsBackPressed (pressingStart s (controlIn r)) (startCall s r)
+
+-- `autoload-calls`: the autoload key hands back what `autoloadLent` does
+abbrev pub AutoloadCalls : Type 0
+AutoloadCalls =
+    (s : List ℕ) (r : ControlRecord) (d : Devices) (cs : List ℕ) → flagsFit r ≡ true
+    → let x = autoloadLent s (controlIn r) d cs in
+    let y = autoloadCall s r d cs in
+    (y .cells ≡ x .cells) × (y .result .refusal ≡ verdictNumber (x .key .verdict))
+    × (x .key .verdict ≡ Accepted → (y .result .control ≡ recordOf (x .key .control)) × (y .result .devices ≡ x .key .devices) × (y .result .taken ≡ x .key .taken))
+
+-- the struct of a run x that ended with the outcome o
+abbrev pub endedRun : Outcome → Run → CallResult
+endedRun o x =
+    record {
+      control = recordOf (x .control);
+      outcome = outcomeCode o;
+      number = outcomeNumber o;
+      executed = x .executed;
+      entries = x .entries;
+      devices = x .devices;
+      taken = x .taken;
+      typed = x .typed;
+    }
+
+-- `run-calls`: a run hands back what `runLent` does
+abbrev pub RunCalls : Type 0
+RunCalls =
+    (l b : ℕ) (s : List ℕ) (r : ControlRecord) (d : Devices) (cs t : List ℕ) → flagsFit r ≡ true
+    → let x = runLent l b s (controlIn r) d cs t in
+    let y = runCall l b s r d cs t in
+    (y .cells ≡ x .cells) × (y .typing ≡ x .typing) × ((o : Outcome) → x .run .answer ≡ Ended o → y .result ≡ endedRun o (x .run))
+
+-- ---- a refusal changes nothing
 
 -- a refused run: the control record byte for byte, every cell, the device buffer registers and every byte of the typing buffer as they came; counts,
 -- taken and typed zero
