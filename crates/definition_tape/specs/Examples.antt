@@ -89,7 +89,7 @@ bytes-tape c = refl
 
 -- ---- load and overlay
 
--- words and keys in every cell
+-- a word in every cell, with a key in five of them
 abbrev pub oldCells : List ℕ
 oldCells = 117440513 ∷ 2 ∷ 16777219 ∷ 4 ∷ 5 ∷ 50331654 ∷ 7 ∷ 33554440 ∷ 83886089 ∷ []
 

@@ -1,4 +1,4 @@
-// The loader of tapes (document 01, "Load tape"): the whole tape is judged before a cell changes.
+// Load and overlay (document 01, "Load tape"; document 02, E5): the whole tape is judged before a cell changes.
 ghost use mathlib.Core.Path.{_≡_};
 ghost use Prim.Native.Nat.{_+_, _*_, _≤_};
 ghost use lib.ListN.{length};

@@ -22,7 +22,7 @@ use Rattle.definition_tape.proofs.Machines.{machine}
 use Rattle.definition_tape.proofs.Remarks.{remark-part as part}
 use Rattle.tape_promises.specs.Grammar.{Records, TapeFor, blocksOf}
 use Rattle.tape_promises.specs.Contents.{SameBlocks}
-use Rattle.tape_promises.specs.Claims.{AcceptedTapes, NoCellTwice, Call, load, overlay, called, unnamedCell, LoadedFrom, OverlaidFrom, LoadsLayout, UnnamedCells, SameMachine, LoadIsOverlay, BorderOverGround, AnyOrder, AcceptedInAnyOrder, KeptSize, KeptAll, LoadedMachines, SameVerdict, FirstRemark, RemarkPart}
+use Rattle.tape_promises.specs.Claims.{AcceptedTapes, NoCellTwice, Call, load, overlay, called, unnamedCell, LoadedFrom, OverlaidFrom, LoadsLayout, ClearedCells, KeptCells, SameMachine, LoadIsOverlay, BorderOverGround, AnyOrder, AcceptedInAnyOrder, KeptSize, KeptAll, LoadedMachines, SameVerdict, FirstRemark, RemarkPart}
 use Rattle.tape_promises.proofs.Grammars.{grammar, judged-of}
 use Rattle.tape_promises.proofs.Once.{judged-once, once-blocks, blocks-once, once-order, names-two}
 use Rattle.tape_promises.proofs.Contents.{only-kept, same-cell, size-loaded, cells-loaded, cells-fit, control-is, control-payload-good, control-fields, span-is, text-is}
@@ -95,8 +95,16 @@ loads-layout k t s c e h =
     rw (called-is k t s c, load-accepted t s e h refl)
     (record { accepted = x .accepted; size = x .size; cells = λ i. rw (← cell-under k s i) (x .cells i); control = x .control })
 
-pub unnamed-cells : UnnamedCells
-unnamed-cells k t s c e h i u = only-kept (loads-layout k t s c e h .cells i) u
+pub cleared-cells : ClearedCells
+cleared-cells t s c e h i u = only-kept (loads-layout load t s c e h .cells i) u
+
+pub kept-cells : KeptCells
+unfolding overlaying
+kept-cells t s c h i u = at (judgeLoad t s)
+  where
+    at : (v : Verdict) → getD (loadedBy v t s s c .cells) i 0 ≡ getD s i 0
+    at (Rejected q) = refl
+    at Accepted = only-kept (over t s s c h refl .cells i) u
 
 cells-any-order : {n : ℕ} (t u s : List ℕ) (h : TapeFor n t) (j : TapeFor n u) → n ≡ length s → SameBlocks (blocksOf (h .layout)) (blocksOf (j .layout)) → tapeCells s t ≡ tapeCells s u
 unfolding tapeCells

@@ -32,6 +32,7 @@ NoCellTwice =
 
 -- ---- load and overlay (document 02, E5)
 
+-- the two calls
 pub data Call : Type 0 where
   load : Call
   overlay : Call
@@ -58,11 +59,17 @@ abbrev pub LoadsLayout : Type 0
 LoadsLayout =
     (k : Call) (t s : List ℕ) (c : Control) → judgeStore s ≡ Accepted → (h : TapeFor (length s) t) → LoadedFrom (h .layout) (unnamedCell k s) (called k t s c)
 
--- of the cells that no block names, a load keeps nothing and an overlay all
-abbrev pub UnnamedCells : Type 0
-UnnamedCells =
-    (k : Call) (t s : List ℕ) (c : Control) → judgeStore s ≡ Accepted → (h : TapeFor (length s) t) (i : ℕ) → (Named i (blocksOf (h .layout)) → ⊥)
-    → getD (called k t s c .cells) i 0 ≡ unnamedCell k s i
+-- a load clears the cells that no block names
+abbrev pub ClearedCells : Type 0
+ClearedCells =
+    (t s : List ℕ) (c : Control) → judgeStore s ≡ Accepted → (h : TapeFor (length s) t) (i : ℕ) → (Named i (blocksOf (h .layout)) → ⊥)
+    → getD (loading t s c .cells) i 0 ≡ 0
+
+-- an overlay keeps them, in every store
+abbrev pub KeptCells : Type 0
+KeptCells =
+    (t s : List ℕ) (c : Control) (h : TapeFor (length s) t) (i : ℕ) → (Named i (blocksOf (h .layout)) → ⊥)
+    → getD (overlaying t s c .cells) i 0 ≡ getD s i 0
 
 -- after a load the machine depends on the tape and the number of cells alone: it is the same for two stores of one size, whatever they held that 2
 -- lets pass

@@ -116,14 +116,19 @@ pub fn press_autoload(
     loaded.hand_back(control, devices)
 }
 
-/// Loads a tape, whose blocks do not overlap, into the store and its control
-/// record into `control`. Every cell that no block names becomes zero, word and
-/// key, registers included: nothing of what the store held stays. The record
-/// given is not tested.
-pub fn load(store: &mut [u32], control: &mut Control, tape: &[u8]) -> Result<(), Refusal> {
+/// `rc4000_load` or `rc4000_overlay`.
+type TakesTape =
+    unsafe extern "C" fn(*mut u32, usize, ffi::ControlRecord, *const u8, usize) -> ffi::State;
+
+fn take_tape(
+    call: TakesTape,
+    store: &mut [u32],
+    control: &mut Control,
+    tape: &[u8],
+) -> Result<(), Refusal> {
     // SAFETY: as in `run`; the tape is only read.
     let state = unsafe {
-        ffi::rc4000_load(
+        call(
             store.as_mut_ptr(),
             store.len(),
             (*control).into(),
@@ -134,21 +139,19 @@ pub fn load(store: &mut [u32], control: &mut Control, tape: &[u8]) -> Result<(),
     state.hand_back(control)
 }
 
+/// Loads a tape, whose blocks do not overlap, into the store and its control
+/// record into `control`. Every cell that no block names becomes zero, word and
+/// key, registers included: nothing of what the store held stays. The record
+/// given is not tested.
+pub fn load(store: &mut [u32], control: &mut Control, tape: &[u8]) -> Result<(), Refusal> {
+    take_tape(ffi::rc4000_load, store, control, tape)
+}
+
 /// Lays a tape over what the store holds, as a border tape over a ground tape:
 /// as [`load`], with the same refusals and the tape's control record, but every
 /// cell that no block names is kept.
 pub fn overlay(store: &mut [u32], control: &mut Control, tape: &[u8]) -> Result<(), Refusal> {
-    // SAFETY: as in `run`; the tape is only read.
-    let state = unsafe {
-        ffi::rc4000_overlay(
-            store.as_mut_ptr(),
-            store.len(),
-            (*control).into(),
-            tape.as_ptr(),
-            tape.len(),
-        )
-    };
-    state.hand_back(control)
+    take_tape(ffi::rc4000_overlay, store, control, tape)
 }
 
 /// The text of the first remark of a tape that loads into a store of `cells`

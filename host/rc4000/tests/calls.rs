@@ -152,50 +152,35 @@ fn full_store() -> Vec<u32> {
         .collect()
 }
 
-#[test]
-fn a_load_clears_the_cells_that_no_block_names() {
-    for first in 0..16 {
+type TakesTape = fn(&mut [u32], &mut Control, &[u8]) -> Result<(), Refusal>;
+
+/// The call leaves each block of one cell over these cells, and without a block
+/// these cells; the control record is the tape's.
+fn leaves_blocks_over(call: TakesTape, under: &[u32]) {
+    let blocks = (0..16).map(|first| (block(first, 1), Some(first as usize)));
+    for (block, named) in blocks.chain([(Vec::new(), None)]) {
         let mut control = Control {
             ic: 6,
             ..Control::fresh()
         };
         let mut store = full_store();
-        let mut named = vec![0; 16];
-        named[first as usize] = 1;
-        load(
-            &mut store,
-            &mut control,
-            &[block(first, 1), tape()].concat(),
-        )
-        .unwrap();
-        assert_eq!((store, control), (named, Control::fresh()));
+        let mut left = under.to_vec();
+        if let Some(first) = named {
+            left[first] = 1;
+        }
+        call(&mut store, &mut control, &[block, tape()].concat()).unwrap();
+        assert_eq!((store, control), (left, Control::fresh()));
     }
-    let mut store = full_store();
-    load(&mut store, &mut Control::fresh(), &tape()).unwrap();
-    assert_eq!(store, vec![0; 16]);
+}
+
+#[test]
+fn a_load_clears_the_cells_that_no_block_names() {
+    leaves_blocks_over(load, &[0; 16]);
 }
 
 #[test]
 fn an_overlay_keeps_the_cells_that_no_block_names() {
-    for first in 0..16 {
-        let mut control = Control {
-            ic: 6,
-            ..Control::fresh()
-        };
-        let mut store = full_store();
-        let mut named = full_store();
-        named[first as usize] = 1;
-        overlay(
-            &mut store,
-            &mut control,
-            &[block(first, 1), tape()].concat(),
-        )
-        .unwrap();
-        assert_eq!((store, control), (named, Control::fresh()));
-    }
-    let mut store = full_store();
-    overlay(&mut store, &mut Control::fresh(), &tape()).unwrap();
-    assert_eq!(store, full_store());
+    leaves_blocks_over(overlay, &full_store());
 }
 
 #[test]
