@@ -3,12 +3,13 @@
 
 usage: tools/cases_tape.py CASES ANSWERS [FOLDER]
 
-The stored files come out with host/vectors/e5.cases and host/vectors/e5.answers; FOLDER is crates/cases_tape where it is not given.
+The stored files come out with host/vectors/e6.cases and host/vectors/e6.answers; FOLDER is crates/cases_tape where it is not given.
 
 The first part is made here: the paper's tape, tapes for every refusal, and for every pair of refusals that stand next to each other in
-the order of document 01 (17 after 9 and before 10, document 02), tapes that earn both at one record; every kind of overlap of two blocks; each
-of these loaded into a store with every cell in use and laid over it. Then what becomes of cells that no block names: each cell alone, and second
-tapes laid over what a load left. The judge below, written from these documents, answers them. Then come the `load`, `overlay` and `remark`
+the order of document 01 (17 after 9 and before 10, 18 at the end of 3, document 02), tapes that earn both at one record; every kind of overlap of
+two blocks; control records of every length from 0 to 40 bytes, and of 33 with every kind of timer; each of these loaded into a store with every
+cell in use and laid over it. Then what becomes of cells that no block names: each cell alone, and second tapes laid over what a load left. The
+judge below, written from these documents, answers them. Then come the `load`, `overlay` and `remark`
 requests of the first file with the answers of the second, line by line. Where the judge gives another answer nothing is written, and the exit
 status is 1.
 """
@@ -17,7 +18,7 @@ import os, struct, sys
 ROOT = os.path.dirname(os.path.dirname(os.path.abspath(__file__)))
 LIMIT = 4096                                    # the program's store
 KINDS = {"load": 1, "remark": 2, "overlay": 3}
-GIVEN = [4294967295, 16777216, 1, 2, 3, 9, 0, 1, 1]
+GIVEN = [4294967295, 16777216, 1, 2, 3, 9, 0, 1, 1, 4294967295, 5, 4294967294, 255]
 
 
 # ---- the judge
@@ -28,6 +29,15 @@ def number(b):
 
 def control(p):
     return [number(p[i:i + 4]) for i in (0, 4, 8, 12)] + [p[16], p[17], p[18] & 1, p[18] >> 1 & 1, p[18] >> 2 & 1]
+
+
+def timer(p):
+    """Elapsed, period, phase, line: behind the 20 bytes, or four zeroes."""
+    return [number(p[i:i + 4]) for i in (20, 24, 28)] + [p[32]] if len(p) == 33 else [0] * 4
+
+
+def timer_fits(elapsed, period, phase, line):
+    return period == 0 or 3 <= line <= 23 and phase < period
 
 
 def control_fits(p):
@@ -49,7 +59,7 @@ def read(tape, n):
             return 7, None, None, None
         if (kind == 3) != (ctl is not None):
             return 11, None, None, None
-        if not {1: size >= 8 and size % 4 == 0, 2: size == 20, 3: size == 0, 4: size <= 255}[kind]:
+        if not {1: size >= 8 and size % 4 == 0, 2: size in (20, 33), 3: size == 0, 4: size <= 255}[kind]:
             return 8, None, None, None
         p = tape[at + 6:at + 6 + size]
         if len(p) < size:
@@ -67,7 +77,9 @@ def read(tape, n):
         if kind == 2:
             if not control_fits(p):
                 return 3, None, None, None
-            ctl = control(p)
+            if not timer_fits(*timer(p)):
+                return 18, None, None, None
+            ctl = control(p) + timer(p)
         if kind == 4 and span is None:
             span = (at + 6, at + 6 + size)
         at += 6 + size
@@ -117,32 +129,38 @@ def block(first, *cells, size=None):
     return rec(1, struct.pack("<I", first) + b"".join(struct.pack("<I", x) for x in cells), size)
 
 
-def ctl(*fields, pr=128, ex=0, flags=5, last=0, size=None):
+def ctl(*fields, pr=128, ex=0, flags=5, last=0, time=None, size=None):
     words = list(fields) + [0] * (4 - len(fields))
-    return rec(2, struct.pack("<IIIIBBBB", *words, pr, ex, flags, last), size)
+    return rec(2, struct.pack("<IIIIBBBB", *words, pr, ex, flags, last) + (struct.pack("<IIIB", *time) if time else b""), size)
 
 
 END = rec(3, b"")
 PAPER = bytes.fromhex("140000000200" + "00" * 16 + "80000500" + "000000000300")
 BIG = 1 << 27
+OFF, BAD, MOST = (0, 0, 0, 0), (0, 2, 2, 2), 4294967295
+BYTES = (0x04030201, 0x08070605, 0x040b0a09, 23)
 
 
 def made():
     good = [PAPER, block(0, 1, 2, 3) + ctl(2, 3, 4, 5) + END, block(7, BIG - 1) + ctl() + END, block(4, 1, 2) + block(2, 9, 8) + ctl() + END,
             rec(4, b"") + ctl() + END, rec(4, b"one") + rec(4, b"two") + ctl() + END, block(0, 5) + rec(4, bytes(255)) + block(1, 6) + ctl() + END,
             ctl(16777215, 16777215, 16777215, 16777215, pr=255, ex=7, flags=3) + END, ctl(1, flags=0) + END, ctl(flags=1) + END, ctl(flags=2) + END,
-            rec(4, b"x" * 10) * 4094 + PAPER]
+            rec(4, b"x" * 10) * 4094 + PAPER, ctl(time=OFF) + END, ctl(2, 3, 4, 5, ex=6, flags=1, time=BYTES) + END,
+            rec(4, b"one") + block(3, 9) + ctl(time=(MOST, MOST, MOST - 1, 3)) + END]
     # each place of document 01's order alone, and every pair of neighbours: the tape has both faults, and the first counts
     single = [b"", PAPER[:-1], PAPER[:-6], PAPER[:5], PAPER[:6], PAPER[:20],                        # 6
               rec(0, b"") + PAPER, rec(5, b"") + PAPER, rec(256, b"") + PAPER, rec(257, bytes(8)) + PAPER,      # 7
               END, ctl() + ctl() + END, ctl() + block(0, 1) + END, ctl() + rec(4, b"") + END,                   # 11
               rec(1, bytes(4)) + PAPER, rec(1, b"") + PAPER, rec(1, bytes(9)) + PAPER, rec(2, bytes(19)) + END, rec(2, bytes(21)) + END,
-              rec(2, bytes(24)) + END, ctl() + rec(3, b"a"), ctl() + rec(3, bytes(4)), rec(4, bytes(256)) + PAPER,          # 8
+              rec(2, bytes(24)) + END, rec(2, bytes(32)) + END, rec(2, bytes(34)) + END,
+              ctl() + rec(3, b"a"), ctl() + rec(3, bytes(4)), rec(4, bytes(256)) + PAPER,                                   # 8
               block(8, 1) + PAPER, block(0, *range(9)) + PAPER, block(4294967295, 1) + PAPER, block(7, 1, 2) + PAPER,       # 9
               block(4, 1, 2, 3, 4) + block(5, 9, 8) + PAPER, block(2, 1) + rec(4, b"") + block(2, 1) + PAPER,               # 17
               block(0, BIG) + PAPER, block(0, 1, 4294967295) + PAPER,                                                       # 10
               ctl(16777216) + END, ctl(0, 16777216) + END, ctl(0, 0, 16777216) + END, ctl(0, 0, 0, 16777216) + END, ctl(pr=127) + END,
-              ctl(ex=8) + END, ctl(flags=8) + END, ctl(flags=13) + END, ctl(last=1) + END, ctl(flags=4) + END, ctl(flags=7) + END,   # 3
+              ctl(ex=8) + END, ctl(flags=8) + END, ctl(flags=13) + END, ctl(last=1) + END, ctl(flags=4) + END, ctl(flags=7) + END,
+              ctl(16777216, time=OFF) + END, ctl(pr=127, time=OFF) + END, ctl(flags=8, time=OFF) + END, ctl(last=1, time=OFF) + END,         # 3
+              ctl(time=BAD) + END, ctl(time=(0, 1, 0, 2)) + END, ctl(time=(0, 1, 0, 24)) + END, ctl(time=(0, 1, 1, 3)) + END,                # 18
               PAPER + b"\0", PAPER + PAPER, PAPER + END,                                                                            # 11
               rec(4, b"x" * 11) + rec(4, b"x" * 10) * 4093 + PAPER]                                                                 # 12
     pairs = [rec(4, b"x" * 10) * 4096 + b"\0",                                            # 12, 6
@@ -157,6 +175,9 @@ def made():
              block(8, BIG) + PAPER, block(7, 1, BIG) + PAPER, block(4294967295, BIG),                                                  # 9, 10
              block(0, BIG) + rec(9, b""), block(0, BIG) + ctl(16777216) + END, block(0, BIG),                                          # 10, 3 of the next
              ctl(16777216) + END + b"\0", ctl(flags=8, last=1) + END + END, ctl(pr=0) + rec(9, b""), ctl(pr=0) + block(0, 1),             # 3, 11
+             ctl(16777216, time=BAD) + END, ctl(flags=8, time=BAD) + END, ctl(last=1, time=BAD) + END, ctl(flags=7, time=BAD) + END,          # 3, 18
+             rec(2, ctl(time=BAD)[6:-1], 33), ctl(time=BAD, size=34) + END, ctl(time=BAD, size=20) + END, block(8, 1) + ctl(time=BAD),    # 6, 8, 9
+             ctl(time=BAD) + END + b"\0", ctl(time=BAD) + rec(9, b""), ctl(time=BAD) + block(0, 1), ctl(time=BAD),                           # 18, 11
              PAPER + rec(9, b""), PAPER + b"\0" * 5, ctl() + rec(3, b"a") + END]                                                       # 11 after 8
     # two blocks with every place of the second, then the same with another between and before them
     blocks = [(a, k) for a in range(8) for k in range(1, 9 - a)]
@@ -172,8 +193,23 @@ def made():
             yield from calls(n, {i: x for i, x in given.items() if i < n}, t)
         for n in (0, 7, 8388608, 8388609, 4294967295):
             yield "remark", n, {}, t
+    yield from timers()
     yield from unnamed()
     yield from laid_over()
+
+
+def timers():
+    """Control records of every length from 0 to 40 bytes; of 33: each line with the period 0 and another, each phase around the period."""
+    whole = ctl(1, 2, 3, 4, ex=5)[6:] + bytes(20)
+    for size in range(41):
+        for t in (rec(2, whole[:size]) + END, rec(2, whole[:size])):
+            yield from every_call(8, full(8), t)
+    for line in (*range(32), 128, 255):
+        for period in (0, 2):
+            yield from calls(8, full(8), ctl(time=(line, period, 1, line)) + END)
+    for period in (0, 1, 2, 255, 256, 65536, 16777216, MOST):
+        for phase in sorted(x for x in {0, 1, period - 1, period, period + 1, MOST} if 0 <= x <= MOST):
+            yield from calls(8, full(8), ctl(time=(MOST - phase, period, phase, 3)) + END)
 
 
 def full(n):
@@ -214,10 +250,11 @@ def laid_over():
     """A ground tape loaded into a store with every cell in use; border tapes laid over what it leaves, good ones and refused ones; and the ground
     tape again."""
     for n, ground in ((8, block(2, 1, 2, 3, 4)), (9, block(0, 7, 8) + block(5, 1 << 24, 0, 9)), (24, block(20, 1, 2, 3) + block(4, 9, 8, 7, 6))):
-        ground += ctl(6, 5, 4, 3, pr=170, ex=2, flags=1) + END
+        ground += ctl(6, 5, 4, 3, pr=170, ex=2, flags=1, time=BYTES) + END
         yield "load", n, full(n), ground
         after = left("load", {}, read(ground, n)[1])
         for border in (PAPER, block(0, 11) + PAPER, block(n - 1, 12) + block(2, 0, 13) + PAPER, block(0, *[0] * n) + PAPER, b"",
+                       block(0, 11) + ctl(time=(MOST, 3, 2, 3)) + END, block(0, 11) + ctl(time=BAD) + END,
                        block(5, 14) + PAPER + b"\0", block(5, 14) + block(5, 14) + PAPER, block(n, 1) + PAPER, block(0, BIG) + PAPER):
             yield from calls(n, after, border)
         yield from calls(n, left("overlay", after, read(block(1, 15, 16) + PAPER, n)[1]), ground)

@@ -18,7 +18,10 @@ dropped.
                                 either sign, 2.3e-308 to 1.7e308
     key K                       the key of the cells that follow, 0 to 7
     control [IC=N] [IR=N] [IM=N] [pending=N] [PR=N] [EX=N] [monitor] [enabled] [reset]
-                                the control record; PR is 128 where it is not given
+            [elapsed=N] [period=N] [phase=N] [line=N]
+                                the control record; PR is 128 where it is not given. Times are in tenths of a microsecond;
+                                line is the number of the timer's line. With one of the last four the record has 33 bytes,
+                                else 20
     end                         the end record
     raw HEX..                   bytes as they are, for tapes that are to be refused
     text TEXT                   characters behind the program on a reader tape (tools/reader.py), the rest of the
@@ -44,6 +47,7 @@ WORD = 2**24
 LONGEST_TAPE, LONGEST_REMARK = 65536, 255
 
 CONTROL_FIELDS = {"IC": (0, WORD - 1), "IR": (0, WORD - 1), "IM": (0, WORD - 1), "pending": (0, WORD - 1), "PR": (128, 255), "EX": (0, 7)}
+TIMES = {"elapsed": (0, 2**32 - 1), "period": (0, 2**32 - 1), "phase": (0, 2**32 - 1), "line": (0, 255)}
 FLAGS = {"monitor": 1, "enabled": 2, "reset": 4}
 
 
@@ -139,8 +143,8 @@ def control(fields, labels):
         name, equals, value = field.partition("=")
         if name in values or name in flags:
             raise Error(f"a second {name}")
-        if equals and name in CONTROL_FIELDS:
-            values[name] = within(number(value, labels), *CONTROL_FIELDS[name], name)
+        if equals and name in CONTROL_FIELDS | TIMES:
+            values[name] = within(number(value, labels), *(CONTROL_FIELDS | TIMES)[name], name)
         elif not equals and name in FLAGS:
             flags.add(name)
         else:
@@ -148,7 +152,17 @@ def control(fields, labels):
     if "reset" in flags and flags != {"monitor", "reset"}:
         raise Error("the reset state is with monitor and without enabled")
     payload = b"".join(little(values.get(name, 0), 4) for name in ("IC", "IR", "IM", "pending"))
-    return payload + bytes([values.get("PR", 128), values.get("EX", 0), sum(FLAGS[flag] for flag in flags), 0])
+    payload += bytes([values.get("PR", 128), values.get("EX", 0), sum(FLAGS[flag] for flag in flags), 0])
+    return payload + times(values) if TIMES.keys() & values else payload
+
+
+def times(values):
+    """The last 13 bytes of a control record of 33."""
+    elapsed, period, phase, line = (values.get(name, 0) for name in TIMES)
+    if period:
+        within(line, 3, 23, "the line of a timer")
+        within(phase, 0, period - 1, "the phase of this period")
+    return little(elapsed, 4) + little(period, 4) + little(phase, 4) + little(line, 1)
 
 
 class Maker:

@@ -4,7 +4,7 @@
 #include "expect.h"
 #include <string.h>
 
-enum { CELLS = 8, FLAGS = 3 };
+enum { CELLS = 8, FLAGS = 3, WRITTEN = 39 + 6 };
 
 static const uint8_t tape[32] = {20, 0, 0, 0, 2, 0, [22] = 128, 0, 5, 0, 0, 0, 0, 0, 3, 0};
 static const rc4000_control tapes_record = {.pr = 128, .monitor = 1, .reset = 1};
@@ -17,7 +17,7 @@ static void expect_for(bool holds, const char *what, int flag, unsigned byte) {
 
 /* Monitor mode, one flag set to a byte. */
 static rc4000_control with_flag(int flag, unsigned byte) {
-    rc4000_control control = {14, 3, 5, 7, 129, 2, 1, 0, 0};
+    rc4000_control control = {14, 3, 5, 7, 129, 2, 1, 0, 0, 4294967295, 100, 99, 23};
     uint8_t *flags[FLAGS] = {&control.monitor, &control.enabled, &control.reset};
     *flags[flag] = (uint8_t)byte;
     return control;
@@ -85,10 +85,10 @@ static void refused(const uint32_t *cells, size_t count, uint32_t refusal, int f
 static void written(int flag, unsigned byte) {
     const rc4000_control given = with_flag(flag, byte);
     uint32_t store[CELLS] = {0};
-    uint8_t buffer[sizeof tape];
+    uint8_t buffer[WRITTEN];
     const rc4000_written done =
         rc4000_write(store, CELLS, given, 0, NULL, 0, buffer, sizeof buffer);
-    expect_for(done.refusal == 0 && done.length == sizeof tape, "writer", flag, byte);
+    expect_for(done.refusal == 0 && done.length == WRITTEN, "writer", flag, byte);
     const rc4000_state back = rc4000_load(store, CELLS, tapes_record, buffer, sizeof buffer);
     expect_for(back.refusal == 0 && same(back.control, given), "record written", flag, byte);
 }

@@ -18,6 +18,8 @@ static void fresh(void) {
     const rc4000_control begun = start.control;
     expect(begun.ic == 6 && begun.ir == 0 && begun.im == 0 && begun.pending == 0, "registers");
     expect(begun.pr == 128 && begun.ex == 0 && begun.monitor && !begun.enabled, "PR, EX and mode");
+    const bool times = begun.elapsed == 0 && begun.period == 0 && begun.phase == 0;
+    expect(times && begun.line == 0, "elapsed time and timer");
 }
 
 /* A raised line enters the interruption program. */
@@ -44,9 +46,9 @@ static void cells(void) {
 
 /* Every refusal has a text of its own. */
 static void texts(void) {
-    const char *none = rc4000_refusal_text(RC4000_BLOCK_OVERLAP + 1);
+    const char *none = rc4000_refusal_text(RC4000_TIMER + 1);
     expect(strcmp(rc4000_refusal_text(4294967295), none) == 0, "text of no refusal");
-    for (uint32_t number = 0; number <= RC4000_BLOCK_OVERLAP; number++) {
+    for (uint32_t number = 0; number <= RC4000_TIMER; number++) {
         const char *text = rc4000_refusal_text(number);
         expect(strcmp(text, none) != 0, "text of a refusal");
         for (uint32_t other = 0; other < number; other++)

@@ -7,7 +7,7 @@
 #define SIZE(type, size) _Static_assert(sizeof(type) == (size), #type)
 
 SIZE(bool, 1);
-SIZE(rc4000_control, 28);
+SIZE(rc4000_control, 44);
 AT(rc4000_control, ic, 0);
 AT(rc4000_control, ir, 4);
 AT(rc4000_control, im, 8);
@@ -17,30 +17,34 @@ AT(rc4000_control, ex, 20);
 AT(rc4000_control, monitor, 24);
 AT(rc4000_control, enabled, 25);
 AT(rc4000_control, reset, 26);
+AT(rc4000_control, elapsed, 28);
+AT(rc4000_control, period, 32);
+AT(rc4000_control, phase, 36);
+AT(rc4000_control, line, 40);
 
 SIZE(rc4000_devices, 8);
 AT(rc4000_devices, reader, 0);
 AT(rc4000_devices, typewriter, 4);
 
-SIZE(rc4000_result, 72);
+SIZE(rc4000_result, 88);
 AT(rc4000_result, control, 0);
-AT(rc4000_result, outcome, 28);
-AT(rc4000_result, number, 32);
-AT(rc4000_result, executed, 36);
-AT(rc4000_result, entries, 40);
-AT(rc4000_result, devices, 44);
-AT(rc4000_result, taken, 56);
-AT(rc4000_result, typed, 64);
+AT(rc4000_result, outcome, 44);
+AT(rc4000_result, number, 48);
+AT(rc4000_result, executed, 52);
+AT(rc4000_result, entries, 56);
+AT(rc4000_result, devices, 60);
+AT(rc4000_result, taken, 72);
+AT(rc4000_result, typed, 80);
 
-SIZE(rc4000_state, 32);
+SIZE(rc4000_state, 48);
 AT(rc4000_state, control, 0);
-AT(rc4000_state, refusal, 28);
+AT(rc4000_state, refusal, 44);
 
-SIZE(rc4000_autoloaded, 48);
+SIZE(rc4000_autoloaded, 64);
 AT(rc4000_autoloaded, control, 0);
-AT(rc4000_autoloaded, refusal, 28);
-AT(rc4000_autoloaded, devices, 32);
-AT(rc4000_autoloaded, taken, 40);
+AT(rc4000_autoloaded, refusal, 44);
+AT(rc4000_autoloaded, devices, 48);
+AT(rc4000_autoloaded, taken, 56);
 
 SIZE(rc4000_text, 24);
 AT(rc4000_text, refusal, 0);

@@ -8,7 +8,7 @@ enum { CELLS = 16, LONGEST = 128 };
 typedef rc4000_state loading(uint32_t *store, size_t cells, rc4000_control control,
                              const uint8_t *tape, size_t length);
 
-static const rc4000_control given = {14, 3, 5, 7, 129, 2, 1, 0, 0};
+static const rc4000_control given = {14, 3, 5, 7, 129, 2, 1, 0, 0, 11, 13, 12, 17};
 static uint8_t tape[LONGEST];
 static size_t length;
 
@@ -24,7 +24,7 @@ static void punch_block(uint32_t first, uint32_t count, uint32_t value) {
     for (uint32_t i = 0; i < count; i++) punch(value, 4);
 }
 
-/* The control record after power on, and the end. */
+/* The control record after power on, in its form of 20 bytes, and the end. */
 static void punch_last(void) {
     punch(20, 4);
     punch(2, 2);

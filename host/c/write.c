@@ -4,10 +4,11 @@
 #include "expect.h"
 #include <string.h>
 
-enum { CELLS = 16, FULL = 16372, LARGE = 20000 }; /* cells of stores */
-enum { KEPT = 170, SPACE = RC4000_LONGEST_TAPE + 8, BARE = 26 + 6 };
+enum { CELLS = 16, FULL = 16368, LARGE = 20000 }; /* cells of stores */
+enum { KEPT = 170, SPACE = RC4000_LONGEST_TAPE + 8, BARE = 39 + 6 };
 
-static const rc4000_control running = {18, 4194304, 16777215, 6, 255, 5, 1, 1, 0};
+static const rc4000_control running = {18, 4194304, 16777215, 6, 255, 5, 1, 1, 0,
+                                       4294967295, 16777216, 16777215, 23};
 static const uint8_t text[256] = "taken away";
 static uint8_t tape[SPACE];
 static uint32_t large[LARGE];
@@ -86,12 +87,15 @@ static void refused(uint32_t number, size_t cells, rc4000_control control, uint8
 /* Each refusal with all that come after it, from a store that is too small on. */
 static void refusals(void) {
     const rc4000_control zeros = {0};
+    rc4000_control late = running;
+    late.phase = late.period;
     for (size_t i = 0; i < LARGE; i++) large[i] = 1;
     large[5] = 134217728;
     refused(RC4000_STORE_SIZE, 7, zeros, 1, 256, 0);
     refused(RC4000_CELL_VALUE, LARGE, zeros, 1, 256, 0);
     large[5] = 1;
     refused(RC4000_CONTROL_FIELD, LARGE, zeros, 1, 256, 0);
+    refused(RC4000_TIMER, LARGE, late, 1, 256, 0);
     refused(RC4000_REMARK_LENGTH, LARGE, running, 1, 256, 0);
     refused(RC4000_REMARK_LENGTH, 8, running, 255, 256, SPACE);
     refused(RC4000_WRITTEN_LENGTH, LARGE, running, 1, 255, 0);
@@ -119,17 +123,17 @@ static void fits(size_t cells, uint8_t given, size_t remark, size_t length) {
     refused(RC4000_BUFFER_LENGTH, cells, running, given, remark, length - 1);
 }
 
-/* Two blocks of 16,371 cells together make a tape of 65,536 bytes. Two cells
- * less leave 8 bytes for a remark: 6 and its text. */
+/* Two blocks of 16,367 cells together make a tape of 65,533 bytes. Two cells
+ * less leave 11 bytes for a remark: 6 and its text. */
 static void longest(void) {
     for (size_t i = 0; i < LARGE; i++) large[i] = i != 100;
-    fits(FULL, 0, 0, RC4000_LONGEST_TAPE);
+    fits(FULL, 0, 0, RC4000_LONGEST_TAPE - 3);
     refused(RC4000_WRITTEN_LENGTH, FULL, running, 1, 0, SPACE);
     refused(RC4000_WRITTEN_LENGTH, FULL + 1, running, 0, 0, SPACE);
-    fits(FULL - 2, 1, 1, RC4000_LONGEST_TAPE - 1);
-    fits(FULL - 2, 1, 2, RC4000_LONGEST_TAPE);
-    refused(RC4000_WRITTEN_LENGTH, FULL - 2, running, 1, 3, SPACE);
-    refused(RC4000_WRITTEN_LENGTH, FULL - 2, running, 1, 3, RC4000_LONGEST_TAPE);
+    fits(FULL - 2, 1, 4, RC4000_LONGEST_TAPE - 1);
+    fits(FULL - 2, 1, 5, RC4000_LONGEST_TAPE);
+    refused(RC4000_WRITTEN_LENGTH, FULL - 2, running, 1, 6, SPACE);
+    refused(RC4000_WRITTEN_LENGTH, FULL - 2, running, 1, 6, RC4000_LONGEST_TAPE);
 }
 
 int main(void) {

@@ -17,7 +17,11 @@
  * took and typed is handed back as a count; the next call is lent the
  * characters behind those taken and the bytes behind those typed.
  *
- * A call that is refused gives the refusal's number, 1 to 17, and leaves the
+ * Every cycle takes its time by the manual's Appendix A.3: the control record
+ * has the time run so far and an interval timer, which raises a line at the end
+ * of each interval (rc4000_set_interval).
+ *
+ * A call that is refused gives the refusal's number, 1 to 18, and leaves the
  * store and the buffers as they were; where the result has a control record or
  * device buffer registers, they come back as given; every count is zero.
  *
@@ -40,7 +44,10 @@ extern "C" {
 #endif
 
 /* The control record. Reset state implies monitor mode and disabled. A flag is
- * 0 (no) or 1 (yes). */
+ * 0 (no) or 1 (yes). Times are in tenths of a microsecond; a run adds to elapsed
+ * and phase, keys and loads take no time, and no instruction changes period or
+ * line. While the period is not 0 the line has to be 3 to 23 and the phase below
+ * the period. */
 typedef struct {
     uint32_t ic;      /* instruction counter, 24 bits */
     uint32_t ir;      /* interrupt register, 24 bits, bit 0 left-most */
@@ -51,12 +58,24 @@ typedef struct {
     uint8_t monitor;  /* monitor mode */
     uint8_t enabled;  /* interrupts enabled */
     uint8_t reset;    /* reset state */
+    uint32_t elapsed; /* time run, modulo 2^32 */
+    uint32_t period;  /* of the interval timer, 0: off */
+    uint32_t phase;   /* time since the last interval began; kept while it is off */
+    uint8_t line;     /* raised at the end of each interval, 3 to 23 */
 } rc4000_control;
 
 /* The record after power on: all zero but bit 0 of PR, in the reset state. */
 static inline rc4000_control rc4000_fresh(void) {
-    const rc4000_control control = {0, 0, 0, 0, 128, 0, 1, 0, 1};
+    const rc4000_control control = {0, 0, 0, 0, 128, 0, 1, 0, 1, 0, 0, 0, 0};
     return control;
+}
+
+/* Begins an interval now: the timer raises the line, 3 to 23, at the end of the
+ * cycle in which each `period` tenths of a microsecond end. Period 0 stops it. */
+static inline void rc4000_set_interval(rc4000_control *control, uint32_t period, uint8_t line) {
+    control->period = period;
+    control->phase = 0;
+    control->line = line;
 }
 
 /* The constant addresses of the machine. The cell of an address is
@@ -104,9 +123,9 @@ enum {
 };
 
 /* The refusals. The store is tested first (1, 2); then control record, lines,
- * budget and devices (3, 4, 5, 13), or the tape: its length (12), then record
- * by record, of a block 9, 17, 10; or, to write one, control record, remark,
- * tape and buffer (3, 14, 15, 16). */
+ * budget and devices (3, 18, 4, 5, 13), or the tape: its length (12), then record
+ * by record, of a block 9, 17, 10, of the control record 3, 18; or, to write one,
+ * control record, remark, tape and buffer (3, 18, 14, 15, 16). */
 enum {
     RC4000_STORE_SIZE = 1,      /* fewer than 8 or more than 8388608 cells */
     RC4000_CELL_VALUE = 2,      /* a cell of 134217728 or more */
@@ -124,7 +143,9 @@ enum {
     RC4000_REMARK_LENGTH = 14,  /* a remark over 255 bytes */
     RC4000_WRITTEN_LENGTH = 15, /* a machine whose tape would pass 65536 bytes */
     RC4000_BUFFER_LENGTH = 16,  /* a buffer shorter than the tape */
-    RC4000_BLOCK_OVERLAP = 17   /* a block names a cell that an earlier block of the tape names */
+    RC4000_BLOCK_OVERLAP = 17,  /* a block names a cell that an earlier block of the tape names */
+    RC4000_TIMER = 18           /* a timer line outside 3 to 23 or a phase not below the period, where
+                                   the period is not 0 */
 };
 
 /* What a refusal means. The texts stand in the order of the numbers, from 0 on. */
@@ -148,6 +169,7 @@ static inline const char *rc4000_refusal_text(uint32_t number) {
         "a machine whose tape would pass 65,536 bytes",
         "a buffer shorter than the tape",
         "a block names a cell that an earlier block of the tape names",
+        "a timer line outside 3 to 23 or a phase not below the period, where the period is not 0",
     };
     const uint32_t count = sizeof texts / sizeof texts[0];
     return number < count ? texts[number] : "no refusal has this number";
@@ -191,7 +213,8 @@ typedef struct {
 enum { RC4000_LONGEST_TAPE = 65536 };
 
 /* Runs at most budget cycles, at most 65535. The raised lines, bits 3 to 23,
- * join IR first. The reader has `count` characters and the typewriter takes
+ * join IR first; a line that the timer raises is looked at from the next cycle
+ * on. The reader has `count` characters and the typewriter takes
  * `space` bytes, the right-most 8 bits of each word written; the bytes behind
  * those typed are kept. A read with no character left, or a write with no space
  * left, finds the device disconnected; AW with fewer than four characters left

@@ -24,8 +24,8 @@ def in_definition(text):
 
 
 def in_dispatch(text):
-    """`2 => crate::bl(..)`; AS is the function `shift_as`, since `as` is a word of the language."""
-    arms = re.findall(r"^ *(\d+) => \w+::(?:shift_)?(\w+)\(", text, re.M)
+    """`2 => timed(t, 30, crate::bl(..))` or `1 => crate::io(..)`; AS is the function `shift_as`, since `as` is a word of the language."""
+    arms = re.findall(r"^ *(\d+) => (?:[^=]*?)\w+_instructions::(?:shift_)?(\w+)\(", text, re.M)
     return numbered((int(code), name.upper()) for code, name in arms)
 
 

@@ -1,13 +1,15 @@
--- Who is refused, for what: the refusals 1 to 5 of document 01 and 13 of document 02, in their order, each over everything before the next.
+-- Who is refused, for what: the refusals 1 to 5 of document 01, 13 and 18 of document 02, in their order, each over everything before the next.
 -- Assumes nothing.
 use Prim.Native.Nat.{ℕ}
 use mathlib.Core.Bool.{Bool, true, false, not, cond}
 use mathlib.Core.List.{List, [], _∷_}
-use lib.Dec.{ltb, leb}
+use lib.Dec.{eqb, ltb, leb}
 use lib.ListN.{length}
 use Rattle.registers.specs.Reg.{wordRange}
 use Rattle.machine.specs.declared.Control.{Control}
-use Rattle.machine.specs.declared.Refusal.the-variants.{StoreSize, CellValue, ControlField, Lines, Budget, Device}
+use Rattle.machine.specs.declared.Timer.{Timer}
+use Rattle.machine.specs.declared.Record.{Record}
+use Rattle.machine.specs.declared.Refusal.the-variants.{StoreSize, CellValue, ControlField, TimerField, Lines, Budget, Device}
 use Rattle.machine.specs.declared.Verdict.{Verdict}
 use Rattle.machine.specs.declared.Verdict.the-variants.{Accepted, Rejected}
 
@@ -58,10 +60,24 @@ controlFits c =
 unfoldable pub judgeStore : List ℕ → Verdict
 judgeStore s = cond (sizeFits (length s)) (cond (cellsFit s) Accepted (Rejected CellValue)) (Rejected StoreSize)
 
--- a machine, as the panel keys test it: 1, 2, 3
-unfoldable pub judgeMachine : List ℕ → Control → Verdict
-judgeMachine s c =
+-- cells and control registers: 1, 2, 3
+unfoldable pub judgeRegisters : List ℕ → Control → Verdict
+judgeRegisters s c =
     cond (sizeFits (length s)) (cond (cellsFit s) (cond (controlFits c) Accepted (Rejected ControlField)) (Rejected CellValue)) (Rejected StoreSize)
+
+-- 18: where the period is not 0, a line outside 3 to 23 or a phase not below the period (document 02, E6)
+unfoldable pub timerFits : Timer → Bool
+timerFits t =
+    cond (eqb (t .period) 0) true (cond (ltb (t .line) 3) false (cond (ltb (t .line) 24) (ltb (t .phase) (t .period)) false))
+
+-- tested at the end of 3
+abbrev pub judgeTimer : Verdict → Timer → Verdict
+judgeTimer Accepted t = cond (timerFits t) Accepted (Rejected TimerField)
+judgeTimer (Rejected q) t = Rejected q
+
+-- cells and control record, as the panel keys test them: 1, 2, 3, 18
+unfoldable pub judgeMachine : List ℕ → Record → Verdict
+judgeMachine s r = judgeTimer (judgeRegisters s (r .registers)) (r .timer)
 
 -- 4: lines with bit 0, 1 or 2 set, or over 24 bits; 5: budget over 65,535
 abbrev pub judgeCall : Verdict → ℕ → ℕ → Verdict
@@ -85,10 +101,10 @@ abbrev pub judgeDevices : Verdict → Bool → Verdict
 judgeDevices Accepted f = cond f Accepted (Rejected Device)
 judgeDevices (Rejected q) f = Rejected q
 
--- a run: 1, 2, 3, 4, 5, 13
-unfoldable pub judgeRun : List ℕ → Control → ℕ → ℕ → ℕ → ℕ → List ℕ → Verdict
+-- a run: 1, 2, 3, 18, 4, 5, 13
+unfoldable pub judgeRun : List ℕ → Record → ℕ → ℕ → ℕ → ℕ → List ℕ → Verdict
 judgeRun s c l b r t cs = judgeDevices (judgeCall (judgeMachine s c) l b) (devicesFit r t cs)
 
--- the autoload key: 1, 2, 3, 13
-unfoldable pub judgeAutoload : List ℕ → Control → ℕ → ℕ → List ℕ → Verdict
+-- the autoload key: 1, 2, 3, 18, 13
+unfoldable pub judgeAutoload : List ℕ → Record → ℕ → ℕ → List ℕ → Verdict
 judgeAutoload s c r t cs = judgeDevices (judgeMachine s c) (devicesFit r t cs)

@@ -1,9 +1,11 @@
 // The tests that stores, control records and runs are judged by, in the order of documents 01 and 02.
 ghost use mathlib.Core.Path.{_≡_};
-ghost use Rattle.acceptance.specs.Accept.{sizeFits, cellsFit, stateFits, controlFits, judgeStore, judgeMachine, judgeCall, judgeDevices, charactersFit, devicesFit, judgeRun, judgeAutoload};
+ghost use Rattle.acceptance.specs.Accept.{sizeFits, cellsFit, stateFits, controlFits, timerFits, judgeStore, judgeRegisters, judgeMachine, judgeCall, judgeDevices, charactersFit, devicesFit, judgeRun, judgeAutoload};
 use machine::Control;
 use machine::Devices;
+use machine::Record;
 use machine::Refusal;
+use machine::Timer;
 use machine::Verdict;
 use registers::WORD_RANGE;
 
@@ -87,8 +89,8 @@ pub fn judge_store(s: &[u32]) -> Verdict
     Verdict::Accepted
 }
 
-pub fn judge_machine(s: &[u32], c: Control) -> Verdict
-    ensures { λ r. ⌜ r ≡ judgeMachine (now (s .entry)) c ⌝ }
+pub fn judge_registers(s: &[u32], c: Control) -> Verdict
+    ensures { λ r. ⌜ r ≡ judgeRegisters (now (s .entry)) c ⌝ }
 {
     if !size_fits(s.len()) {
         return Verdict::Rejected(Refusal::StoreSize);
@@ -102,11 +104,45 @@ pub fn judge_machine(s: &[u32], c: Control) -> Verdict
     Verdict::Accepted
 }
 
-// Tests 1 to 5 of a run.
-fn judge_call(s: &[u32], c: Control, lines: u32, budget: u32) -> Verdict
-    ensures { λ r. ⌜ r ≡ judgeCall (judgeMachine (now (s .entry)) c) lines budget ⌝ }
+// With a period of 0 the interval timer is off: phase and line may be any.
+pub fn timer_fits(t: Timer) -> bool
+    ensures { λ r. ⌜ r ≡ timerFits t ⌝ }
 {
-    let v = judge_machine(s, c);
+    if t.period == 0 {
+        return true;
+    }
+    if t.line < 3 {
+        return false;
+    }
+    if t.line >= 24 {
+        return false;
+    }
+    t.phase < t.period
+}
+
+// Cells and control record: 1, 2, 3, 18.
+pub fn judge_machine(s: &[u32], r: Record) -> Verdict
+    ensures { λ v. ⌜ v ≡ judgeMachine (now (s .entry)) r ⌝ }
+{
+    let c = r.registers;
+    let t = r.timer;
+    let v = judge_registers(s, c);
+    match v {
+        Verdict::Accepted => {
+            if !timer_fits(t) {
+                return Verdict::Rejected(Refusal::TimerField);
+            }
+            Verdict::Accepted
+        }
+        Verdict::Rejected(q) => Verdict::Rejected(q),
+    }
+}
+
+// Tests 1 to 5 of a run, 18 among them.
+fn judge_call(s: &[u32], r: Record, lines: u32, budget: u32) -> Verdict
+    ensures { λ v. ⌜ v ≡ judgeCall (judgeMachine (now (s .entry)) r) lines budget ⌝ }
+{
+    let v = judge_machine(s, r);
     match v {
         Verdict::Accepted => {
             if lines >= LINE_RANGE {
@@ -117,7 +153,7 @@ fn judge_call(s: &[u32], c: Control, lines: u32, budget: u32) -> Verdict
             }
             Verdict::Accepted
         }
-        Verdict::Rejected(r) => Verdict::Rejected(r),
+        Verdict::Rejected(q) => Verdict::Rejected(q),
     }
 }
 
@@ -157,27 +193,27 @@ fn judge_devices(v: Verdict, d: Devices, characters: &[u8]) -> Verdict
             }
             Verdict::Accepted
         }
-        Verdict::Rejected(r) => Verdict::Rejected(r),
+        Verdict::Rejected(q) => Verdict::Rejected(q),
     }
 }
 
 pub fn judge_run(
     s: &[u32],
-    c: Control,
+    r: Record,
     lines: u32,
     budget: u32,
     d: Devices,
     characters: &[u8],
 ) -> Verdict
-    ensures { λ r. ⌜ r ≡ judgeRun (now (s .entry)) c lines budget (d .reader) (d .typewriter) (now (characters .entry)) ⌝ }
+    ensures { λ v. ⌜ v ≡ judgeRun (now (s .entry)) r lines budget (d .reader) (d .typewriter) (now (characters .entry)) ⌝ }
 {
-    let v = judge_call(s, c, lines, budget);
+    let v = judge_call(s, r, lines, budget);
     judge_devices(v, d, characters)
 }
 
-pub fn judge_autoload(s: &[u32], c: Control, d: Devices, characters: &[u8]) -> Verdict
-    ensures { λ r. ⌜ r ≡ judgeAutoload (now (s .entry)) c (d .reader) (d .typewriter) (now (characters .entry)) ⌝ }
+pub fn judge_autoload(s: &[u32], r: Record, d: Devices, characters: &[u8]) -> Verdict
+    ensures { λ v. ⌜ v ≡ judgeAutoload (now (s .entry)) r (d .reader) (d .typewriter) (now (characters .entry)) ⌝ }
 {
-    let v = judge_machine(s, c);
+    let v = judge_machine(s, r);
     judge_devices(v, d, characters)
 }

@@ -26,7 +26,7 @@ pub extern "C" fn rc4000_run(
     let v = capi_records::judge_flags(store, control);
     match v {
         Verdict::Accepted => {
-            let c = control.control();
+            let c = control.record();
             let x = rc4000::run(store, c, lines, budget, devices, characters, typing);
             capi_records::run_result(x, control, devices)
         }
@@ -41,7 +41,7 @@ pub extern "C" fn rc4000_press_reset(store: &mut [u32], control: ControlRecord) 
     let v = capi_records::judge_flags(store, control);
     match v {
         Verdict::Accepted => {
-            let c = control.control();
+            let c = control.record();
             let x = rc4000::press_reset(store, c);
             capi_records::state_result(x, control)
         }
@@ -56,7 +56,7 @@ pub extern "C" fn rc4000_press_start(store: &mut [u32], control: ControlRecord) 
     let v = capi_records::judge_flags(store, control);
     match v {
         Verdict::Accepted => {
-            let c = control.control();
+            let c = control.record();
             let x = rc4000::press_start(store, c);
             capi_records::state_result(x, control)
         }
@@ -76,7 +76,7 @@ pub extern "C" fn rc4000_press_autoload(
     let v = capi_records::judge_flags(store, control);
     match v {
         Verdict::Accepted => {
-            let c = control.control();
+            let c = control.record();
             let x = rc4000::press_autoload(store, c, devices, characters);
             capi_records::autoload_result(x, control, devices)
         }
@@ -88,7 +88,7 @@ pub extern "C" fn rc4000_press_autoload(
 pub extern "C" fn rc4000_load(store: &mut [u32], control: ControlRecord, tape: &[u8]) -> StateResult
     ensures { λ r. ⌜ returned r (now (store .exit)) ≡ loadCall (now (tape .entry)) (now (store .entry)) control ⌝ }
 {
-    let c = control.control();
+    let c = control.record();
     let x = rc4000::load(store, c, tape);
     capi_records::state_result(x, control)
 }
@@ -101,7 +101,7 @@ pub extern "C" fn rc4000_overlay(
 ) -> StateResult
     ensures { λ r. ⌜ returned r (now (store .exit)) ≡ overlayCall (now (tape .entry)) (now (store .entry)) control ⌝ }
 {
-    let c = control.control();
+    let c = control.record();
     let x = rc4000::overlay(store, c, tape);
     capi_records::state_result(x, control)
 }
@@ -132,7 +132,7 @@ pub extern "C" fn rc4000_write(
     let v = capi_records::judge_flags(store, control);
     match v {
         Verdict::Accepted => {
-            let c = control.control();
+            let c = control.record();
             let x = rc4000::write(store, c, given != 0, text, tape);
             capi_records::write_result(x)
         }

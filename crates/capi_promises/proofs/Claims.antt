@@ -7,7 +7,8 @@ use mathlib.Core.Option.{Option}
 use mathlib.Core.List.{List, []}
 use lib.Dec.{eqb, ltb, leb}
 use lib.ListN.{length}
-use Rattle.machine.specs.declared.Control.{Control}
+use Rattle.machine.specs.declared.Timer.{Timer}
+use Rattle.machine.specs.declared.Record.{Record}
 use Rattle.machine.specs.declared.Devices.{Devices}
 use Rattle.machine.specs.declared.Run.{Run}
 use Rattle.machine.specs.declared.Autoloaded.{Autoloaded}
@@ -20,8 +21,8 @@ use Rattle.machine.specs.declared.Answer.{Answer}
 use Rattle.machine.specs.declared.Answer.the-variants.{Refused, Ended}
 use Rattle.machine.specs.Answers.{verdictNumber}
 use Rattle.acceptance.proofs.Tests.{refused}
-use Rattle.acceptance.specs.Accept.{sizeFits, cellsFit, controlFits, judgeStore, judgeMachine}
-use Rattle.definition_instructions.specs.Machine.{Computer, computer, Machine}
+use Rattle.acceptance.specs.Accept.{sizeFits, cellsFit, controlFits, timerFits, judgeStore, judgeRegisters, judgeTimer, judgeMachine}
+use Rattle.definition_runs.specs.Timed.{TimedComputer, timedComputer, keepingTimer, TimedMachine, untimed, timed}
 use Rattle.definition_runs.specs.Run.{runMachine}
 use Rattle.definition_runs.specs.Keys.{pressedBy, resetKey, startKey, autoloadKey, pressingReset, pressingStart, judgeAutoloadOf, pressingAutoload}
 use Rattle.definition_runs.specs.Lent as Lent
@@ -36,7 +37,7 @@ use Rattle.tape_promises.proofs.Numbers.{positive}
 use Rattle.writer_promises.specs.Claims.{tapeSize}
 use Rattle.writer_promises.proofs.Claims.{written-tape-length}
 use Rattle.capi_records.specs.declared.ControlRecord.{ControlRecord}
-use Rattle.capi_records.specs.Results.{flagsFit, controlIn, recordOf, judgeFlags, returned, runReturned, resultBy, stateBy, autoloadedBy, runBy, keyBy, autoloadBy, loadBy, writeResultBy, writeBy, runCall, resetCall, startCall, autoloadCall, loadCall, overlayCall, writeCall}
+use Rattle.capi_records.specs.Results.{flagsFit, registersIn, timerIn, recordIn, recordOf, judgeFlags, returned, runReturned, resultBy, stateBy, autoloadedBy, runBy, keyBy, autoloadBy, loadBy, writeResultBy, writeBy, runCall, resetCall, startCall, autoloadCall, loadCall, overlayCall, writeCall}
 use Rattle.capi_promises.specs.Claims.{numberOf, fitsLent, RunNumbers, AutoloadCallNumbers, WriteNumbers, WriteAccepted, HandsBack, LoadCalls, KeyCalls, AutoloadCalls, RunCalls, RunAsGiven, StateAsGiven, AutoloadAsGiven, WriteAsGiven, RefusedAsGiven}
 
 -- ---- the numbers of a run
@@ -58,14 +59,14 @@ bad-number false c r d s t x = refl
 
 -- dueNumber with f in the place of the flag bytes' test
 by-flags : (f : Bool) (l b : ℕ) (s : List ℕ) (r : ControlRecord) (d : Devices) (cs t : List ℕ)
-    → numberOf (runBy (cond f Accepted (judgeThen (judgeStore s) (Rejected ControlField))) r d s t (runLent l b s (controlIn r) d cs t) .result)
+    → numberOf (runBy (cond f Accepted (judgeThen (judgeStore s) (Rejected ControlField))) r d s t (runLent l b s (recordIn r) d cs t) .result)
     ≡ cond (sizeFits (length s))
-    (cond (cellsFit s) (cond f (cond (controlFits (controlIn r)) (cond (ltb l 2097152) (cond (ltb b 65536) (cond (fitsLent d cs) 0 13) 5) 4) 3) 3) 2) 1
-unfolding judgeStore runLent handedBack
+    (cond (cellsFit s) (cond f (cond (controlFits (registersIn r)) (cond (timerFits (timerIn r)) (cond (ltb l 2097152) (cond (ltb b 65536) (cond (fitsLent d cs) 0 13) 5) 4) 18) 3) 3) 2) 1
+unfolding judgeStore runLent handedBack recordIn
 by-flags true l b s r d cs t =
-    result-number (runMachine l b (machineLent s (controlIn r) d cs t) .answer) r d (runLent l b s (controlIn r) d cs t .run)
-    ∙ refusal-numbers l b (machineLent s (controlIn r) d cs t)
-by-flags false l b s r d cs t = bad-number (sizeFits (length s)) (cellsFit s) r d s t (runLent l b s (controlIn r) d cs t)
+    result-number (runMachine l b (machineLent s (recordIn r) d cs t) .answer) r d (runLent l b s (recordIn r) d cs t .run)
+    ∙ refusal-numbers l b (machineLent s (recordIn r) d cs t)
+by-flags false l b s r d cs t = bad-number (sizeFits (length s)) (cellsFit s) r d s t (runLent l b s (recordIn r) d cs t)
 
 pub run-numbers : RunNumbers
 unfolding runCall judgeFlags
@@ -84,13 +85,13 @@ bad-key true false r d s x = refl
 bad-key false c r d s x = refl
 
 key-flags : (f : Bool) (s : List ℕ) (r : ControlRecord) (d : Devices) (cs : List ℕ)
-    → autoloadBy (cond f Accepted (judgeThen (judgeStore s) (Rejected ControlField))) r d s (autoloadLent s (controlIn r) d cs) .result .refusal
-    ≡ cond (sizeFits (length s)) (cond (cellsFit s) (cond f (cond (controlFits (controlIn r)) (cond (fitsLent d cs) 0 13) 3) 3) 2) 1
-unfolding judgeStore autoloadLent keyHandedBack
+    → autoloadBy (cond f Accepted (judgeThen (judgeStore s) (Rejected ControlField))) r d s (autoloadLent s (recordIn r) d cs) .result .refusal
+    ≡ cond (sizeFits (length s)) (cond (cellsFit s) (cond f (cond (controlFits (registersIn r)) (cond (timerFits (timerIn r)) (cond (fitsLent d cs) 0 13) 18) 3) 3) 2) 1
+unfolding judgeStore autoloadLent keyHandedBack recordIn
 key-flags true s r d cs =
-    let m = machineLent s (controlIn r) d cs [] in
-    key-number (pressingAutoload m .verdict) r d (autoloadLent s (controlIn r) d cs .key) ∙ keys.autoload-numbers m
-key-flags false s r d cs = bad-key (sizeFits (length s)) (cellsFit s) r d s (autoloadLent s (controlIn r) d cs)
+    let m = machineLent s (recordIn r) d cs [] in
+    key-number (pressingAutoload m .verdict) r d (autoloadLent s (recordIn r) d cs .key) ∙ keys.autoload-numbers m
+key-flags false s r d cs = bad-key (sizeFits (length s)) (cellsFit s) r d s (autoloadLent s (recordIn r) d cs)
 
 pub autoload-call-numbers : AutoloadCallNumbers
 unfolding autoloadCall judgeFlags
@@ -109,32 +110,37 @@ bad-write true false o x = refl
 bad-write false c o x = refl
 
 -- the number of `judgeWriting`, by its tests
-tests-number : (z c f m a b : Bool)
-    → verdictNumber (judgeThen (cond z (cond c (cond f Accepted (Rejected ControlField)) (Rejected CellValue)) (Rejected StoreSize))
+tests-number : (z c f k m a b : Bool) (t : Timer) → timerFits t ≡ k
+    → verdictNumber (judgeThen (judgeTimer (cond z (cond c (cond f Accepted (Rejected ControlField)) (Rejected CellValue)) (Rejected StoreSize)) t)
     (cond m (cond a (cond b Accepted (Rejected BufferLength)) (Rejected WrittenLength)) (Rejected RemarkLength)))
-    ≡ cond z (cond c (cond f (cond m (cond a (cond b 0 16) 15) 14) 3) 2) 1
-tests-number true true true true true true = refl
-tests-number true true true true true false = refl
-tests-number true true true true false b = refl
-tests-number true true true false a b = refl
-tests-number true true false m a b = refl
-tests-number true false f m a b = refl
-tests-number false c f m a b = refl
+    ≡ cond z (cond c (cond f (cond k (cond m (cond a (cond b 0 16) 15) 14) 18) 3) 2) 1
+tests-number true true true true true true true t e = rw e
+tests-number true true true true true true false t e = rw e
+tests-number true true true true true false b t e = rw e
+tests-number true true true true false a b t e = rw e
+tests-number true true true false m a b t e = rw e
+tests-number true true false k m a b t e = refl
+tests-number true false f k m a b t e = refl
+tests-number false c f k m a b t e = refl
 
-writing-number : (s : List ℕ) (c : Control) (m : Option (List ℕ)) (n : ℕ)
-    → verdictNumber (judgeWriting s c m n)
-    ≡ cond (sizeFits (length s)) (cond (cellsFit s) (cond (controlFits c) (cond (remarkFits m) (cond (leb (tapeSize s m) 65536) (cond (leb (tapeSize s m) n) 0 16) 15) 14) 3) 2) 1
-unfolding judgeWriting judgeMachine judgeParts judgeSize
-writing-number s c m n =
-    rw (written-tape-length s c m) (tests-number (sizeFits (length s)) (cellsFit s) (controlFits c) (remarkFits m) (leb (tapeSize s m) 65536) (leb (tapeSize s m) n))
+writing-number : (s : List ℕ) (r : Record) (m : Option (List ℕ)) (n : ℕ)
+    → verdictNumber (judgeWriting s r m n)
+    ≡ cond (sizeFits (length s))
+    (cond (cellsFit s) (cond (controlFits (r .registers)) (cond (timerFits (r .timer)) (cond (remarkFits m) (cond (leb (tapeSize s m) 65536) (cond (leb (tapeSize s m) n) 0 16) 15) 14) 18) 3) 2) 1
+unfolding judgeWriting judgeMachine judgeRegisters judgeParts judgeSize
+writing-number s r m n =
+    rw (written-tape-length s r m)
+    (tests-number (sizeFits (length s)) (cellsFit s) (controlFits (r .registers)) (timerFits (r .timer)) (remarkFits m) (leb (tapeSize s m) 65536) (leb (tapeSize s m) n) (r .timer) refl)
 
 write-flags : (f : Bool) (s : List ℕ) (r : ControlRecord) (m : Option (List ℕ)) (o : List ℕ)
-    → writeBy (cond f Accepted (judgeThen (judgeStore s) (Rejected ControlField))) o (writing s (controlIn r) m o) .result .refusal
+    → writeBy (cond f Accepted (judgeThen (judgeStore s) (Rejected ControlField))) o (writing s (recordIn r) m o) .result .refusal
     ≡ cond (sizeFits (length s))
-    (cond (cellsFit s) (cond f (cond (controlFits (controlIn r)) (cond (remarkFits m) (cond (leb (tapeSize s m) 65536) (cond (leb (tapeSize s m) (length o)) 0 16) 15) 14) 3) 3) 2) 1
-unfolding judgeStore writing
-write-flags true s r m o = write-number (judgeWriting s (controlIn r) m (length o)) (tapeOf s (controlIn r) m) o ∙ writing-number s (controlIn r) m (length o)
-write-flags false s r m o = bad-write (sizeFits (length s)) (cellsFit s) o (writing s (controlIn r) m o)
+    (cond (cellsFit s)
+    (cond f
+    (cond (controlFits (registersIn r)) (cond (timerFits (timerIn r)) (cond (remarkFits m) (cond (leb (tapeSize s m) 65536) (cond (leb (tapeSize s m) (length o)) 0 16) 15) 14) 18) 3) 3) 2) 1
+unfolding judgeStore writing recordIn
+write-flags true s r m o = write-number (judgeWriting s (recordIn r) m (length o)) (tapeOf s (recordIn r) m) o ∙ writing-number s (recordIn r) m (length o)
+write-flags false s r m o = bad-write (sizeFits (length s)) (cellsFit s) o (writing s (recordIn r) m o)
 
 pub write-numbers : WriteNumbers
 unfolding writeCall judgeFlags
@@ -150,26 +156,26 @@ pub write-accepted : WriteAccepted
 unfolding writeCall writing
 write-accepted s r g m o =
     let given = remarkOf (not (eqb g 0)) m in
-    accepted-by (judgeFlags s r) (judgeWriting s (controlIn r) given (length o)) (tapeOf s (controlIn r) given) o
+    accepted-by (judgeFlags s r) (judgeWriting s (recordIn r) given (length o)) (tapeOf s (recordIn r) given) o
 
 -- ---- what is handed back
 
-state-back : (v : Verdict) (s : List ℕ) (r : ControlRecord) (c : Control) → HandsBack s v c (returned (stateBy v r c) s)
+state-back : (v : Verdict) (s : List ℕ) (r : ControlRecord) (c : Record) → HandsBack s v c (returned (stateBy v r c) s)
 state-back (Rejected q) s r c = record { cells = refl; number = refl; control = λ e. refused e }
 state-back Accepted s r c = record { cells = refl; number = refl; control = λ e. refl }
 
 pub load-calls : LoadCalls
 unfolding loadCall overlayCall
 load-calls t s r =
-    let x = loading t s (controlIn r) in
-    let y = overlaying t s (controlIn r) in
+    let x = loading t s (recordIn r) in
+    let y = overlaying t s (recordIn r) in
     (state-back (x .state .verdict) (x .cells) r (x .state .control), state-back (y .state .verdict) (y .cells) r (y .state .control))
 
 pub key-calls : KeyCalls
 unfolding resetCall startCall judgeFlags
 key-calls s r e =
-    let x = pressingReset s (controlIn r) in
-    let y = pressingStart s (controlIn r) in
+    let x = pressingReset s (recordIn r) in
+    let y = pressingStart s (recordIn r) in
     rw e (state-back (x .verdict) (x .machine .cells) r (x .machine .control), state-back (y .verdict) (y .machine .cells) r (y .machine .control))
 
 autoload-back : (v : Verdict) (r : ControlRecord) (d : Devices) (x : Autoloaded)
@@ -181,7 +187,7 @@ autoload-back Accepted r d x = (refl, λ e. (refl, refl, refl))
 pub autoload-calls : AutoloadCalls
 unfolding autoloadCall judgeFlags
 autoload-calls s r d cs e =
-    let x = autoloadLent s (controlIn r) d cs in
+    let x = autoloadLent s (recordIn r) d cs in
     let b = autoload-back (x .key .verdict) r d (x .key) in
     rw e (refl, b .0, b .1)
 
@@ -193,11 +199,11 @@ run-calls l b s r d cs t e = rw e (refl, refl, λ o h. rw h refl)
 
 -- an accepted call whose answer is a refusal left everything as it was
 run-as-given : (a : Answer) (l b : ℕ) (s : List ℕ) (r : ControlRecord) (d : Devices) (cs t : List ℕ)
-    → runMachine l b (machineLent s (controlIn r) d cs t) .answer ≡ a
-    → let x = runLent l b s (controlIn r) d cs t in RunAsGiven s r d t (runReturned (resultBy a r d (x .run)) (x .cells) (x .typing))
+    → runMachine l b (machineLent s (recordIn r) d cs t) .answer ≡ a
+    → let x = runLent l b s (recordIn r) d cs t in RunAsGiven s r d t (runReturned (resultBy a r d (x .run)) (x .cells) (x .typing))
 unfolding runLent handedBack
 run-as-given (Refused q) l b s r d cs t h =
-    let m = machineLent s (controlIn r) d cs t in
+    let m = machineLent s (recordIn r) d cs t in
     let kept = refused-run l b m q (refused-only l b m q h) in
     λ _. (refl, refl, refl, ap (λ x. handedBack cs x .cells) kept, refl, refl, refl, ap (λ x. handedBack cs x .typing) kept)
 run-as-given (Ended Spent) l b s r d cs t h = λ z. absurd (omega (arith, z))
@@ -205,25 +211,25 @@ run-as-given (Ended Reset) l b s r d cs t h = λ z. absurd (omega (arith, z))
 run-as-given (Ended (Interrupted Exception)) l b s r d cs t h = λ z. absurd (omega (arith, z))
 run-as-given (Ended (Interrupted (Line n))) l b s r d cs t h = λ z. absurd (omega (arith, z))
 
-run-by : (v : Verdict) (l b : ℕ) (s : List ℕ) (r : ControlRecord) (d : Devices) (cs t : List ℕ) → RunAsGiven s r d t (runBy v r d s t (runLent l b s (controlIn r) d cs t))
+run-by : (v : Verdict) (l b : ℕ) (s : List ℕ) (r : ControlRecord) (d : Devices) (cs t : List ℕ) → RunAsGiven s r d t (runBy v r d s t (runLent l b s (recordIn r) d cs t))
 unfolding runLent handedBack
 run-by (Rejected q) l b s r d cs t = λ _. (refl, refl, refl, refl, refl, refl, refl, refl)
 run-by Accepted l b s r d cs t = run-as-given _ l b s r d cs t refl
 
 -- v: the flag bytes' test; w: the key's tests
-key-by : (v w : Verdict) (s : List ℕ) (r : ControlRecord) (c : Control) (n : Computer) → StateAsGiven s r (keyBy v r s (pressedBy w (computer s c) n))
+key-by : (v w : Verdict) (s : List ℕ) (r : ControlRecord) (c : Record) (n : TimedComputer) → StateAsGiven s r (keyBy v r s (pressedBy w (timedComputer s c) n))
 key-by (Rejected q) w s r c n = λ _. (refl, refl)
 key-by Accepted (Rejected q) s r c n = λ _. (refl, refl)
 key-by Accepted Accepted s r c n = λ z. absurd (z refl)
 
-autoload-by : (v w : Verdict) (s : List ℕ) (r : ControlRecord) (d : Devices) (cs : List ℕ) (n : Machine)
-    → AutoloadAsGiven s r d (autoloadBy v r d s (keyHandedBack cs (pressedBy w (machineLent s (controlIn r) d cs []) n)))
+autoload-by : (v w : Verdict) (s : List ℕ) (r : ControlRecord) (d : Devices) (cs : List ℕ) (n : TimedMachine)
+    → AutoloadAsGiven s r d (autoloadBy v r d s (keyHandedBack cs (pressedBy w (machineLent s (recordIn r) d cs []) n)))
 unfolding keyHandedBack
 autoload-by (Rejected q) w s r d cs n = λ _. (refl, refl, refl, refl)
 autoload-by Accepted (Rejected q) s r d cs n = λ _. (refl, refl, refl, refl)
 autoload-by Accepted Accepted s r d cs n = λ z. absurd (z refl)
 
-load-by : (v : Verdict) (tape u s : List ℕ) (r : ControlRecord) (c : Control) → StateAsGiven s r (loadBy r (loadedBy v tape u s c))
+load-by : (v : Verdict) (tape u s : List ℕ) (r : ControlRecord) (c : Record) → StateAsGiven s r (loadBy r (loadedBy v tape u s c))
 load-by (Rejected q) tape u s r c = λ _. (refl, refl)
 load-by Accepted tape u s r c = λ z. absurd (z refl)
 
@@ -236,10 +242,10 @@ pub refused-as-given : RefusedAsGiven
 unfolding runCall resetCall startCall autoloadCall loadCall overlayCall writeCall pressingReset pressingStart pressingAutoload autoloadLent loading overlaying writing
 refused-as-given l b g tape s r d cs t m o = (
   run-by (judgeFlags s r) l b s r d cs t,
-  key-by (judgeFlags s r) (judgeMachine s (controlIn r)) s r (controlIn r) (resetKey s (controlIn r)),
-  key-by (judgeFlags s r) (judgeMachine s (controlIn r)) s r (controlIn r) (startKey s (controlIn r)),
-  autoload-by (judgeFlags s r) (judgeAutoloadOf (machineLent s (controlIn r) d cs [])) s r d cs (autoloadKey (machineLent s (controlIn r) d cs [])),
-  load-by (judgeLoad tape s) tape (cleared (length s)) s r (controlIn r),
-  load-by (judgeLoad tape s) tape s s r (controlIn r),
-  write-by (judgeFlags s r) (judgeWriting s (controlIn r) (remarkOf (not (eqb g 0)) m) (length o)) (tapeOf s (controlIn r) (remarkOf (not (eqb g 0)) m)) o,
+  let c = recordIn r in key-by (judgeFlags s r) (judgeMachine s c) s r c (keepingTimer (c .timer) (resetKey s (c .registers))),
+  let c = recordIn r in key-by (judgeFlags s r) (judgeMachine s c) s r c (keepingTimer (c .timer) (startKey s (c .registers))),
+  let m = machineLent s (recordIn r) d cs [] in autoload-by (judgeFlags s r) (judgeAutoloadOf m) s r d cs (timed (m .control .timer) (autoloadKey (untimed m))),
+  load-by (judgeLoad tape s) tape (cleared (length s)) s r (recordIn r),
+  load-by (judgeLoad tape s) tape s s r (recordIn r),
+  write-by (judgeFlags s r) (judgeWriting s (recordIn r) (remarkOf (not (eqb g 0)) m) (length o)) (tapeOf s (recordIn r) (remarkOf (not (eqb g 0)) m)) o,
 )

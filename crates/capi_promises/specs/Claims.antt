@@ -7,15 +7,15 @@ use mathlib.Core.List.{List}
 use lib.Dec.{eqb, ltb, leb}
 use lib.ListN.{length}
 use Rattle.machine.specs.declared.Devices.{Devices}
-use Rattle.machine.specs.declared.Control.{Control}
+use Rattle.machine.specs.declared.Record.{Record}
 use Rattle.machine.specs.declared.Run.{Run}
 use Rattle.machine.specs.declared.Outcome.{Outcome}
 use Rattle.machine.specs.declared.Answer.the-variants.{Ended}
 use Rattle.machine.specs.declared.Verdict.{Verdict}
 use Rattle.machine.specs.declared.Verdict.the-variants.{Accepted}
 use Rattle.machine.specs.Answers.{verdictNumber}
-use Rattle.acceptance.specs.Accept.{sizeFits, cellsFit, controlFits, devicesFit}
-use Rattle.definition_instructions.specs.Machine.{Computer}
+use Rattle.acceptance.specs.Accept.{sizeFits, cellsFit, controlFits, timerFits, devicesFit}
+use Rattle.definition_runs.specs.Timed.{TimedComputer}
 use Rattle.definition_runs.specs.Keys.{Pressed, pressingReset, pressingStart}
 use Rattle.definition_runs.specs.Lent.{runLent, autoloadLent}
 use Rattle.definition_tape.specs.Load.{Loaded, loading, overlaying}
@@ -25,7 +25,7 @@ use Rattle.capi_records.specs.declared.ControlRecord.{ControlRecord}
 use Rattle.capi_records.specs.declared.CallResult.{CallResult}
 use Rattle.capi_records.specs.declared.StateResult.{StateResult}
 use Rattle.capi_records.specs.declared.AutoloadResult.{AutoloadResult}
-use Rattle.capi_records.specs.Results.{flagsFit, controlIn, recordOf, outcomeCode, outcomeNumber, Returned, RunReturned, WriteReturned, runCall, resetCall, startCall, autoloadCall, loadCall, overlayCall, writeCall}
+use Rattle.capi_records.specs.Results.{flagsFit, registersIn, timerIn, recordIn, recordOf, outcomeCode, outcomeNumber, Returned, RunReturned, WriteReturned, runCall, resetCall, startCall, autoloadCall, loadCall, overlayCall, writeCall}
 
 -- the number of a run's refusal, 0 where the run is not refused
 abbrev pub numberOf : CallResult → ℕ
@@ -35,42 +35,49 @@ numberOf x = cond (eqb (x .outcome) 0) (x .number) 0
 abbrev pub fitsLent : Devices → List ℕ → Bool
 fitsLent d cs = devicesFit (d .reader) (d .typewriter) cs
 
--- the first of the numbers 1 to 5 and 13 whose condition is met, 0 for none; a flag byte over 1 is 3
+-- the first of the numbers 1, 2, 3, 18, 4, 5 and 13, in this order, whose condition is met, 0 for none; a flag byte over 1 is 3
 abbrev pub dueNumber : ℕ → ℕ → List ℕ → ControlRecord → Devices → List ℕ → ℕ
 dueNumber l b s r d cs =
     cond (sizeFits (length s))
     (cond (cellsFit s)
     (cond (flagsFit r)
-    (cond (controlFits (controlIn r))
+    (cond (controlFits (registersIn r))
+    (cond (timerFits (timerIn r))
     (cond (ltb l 2097152)
     (cond (ltb b 65536)
-    (cond (fitsLent d cs) 0 13) 5) 4) 3) 3) 2) 1
+    (cond (fitsLent d cs) 0 13) 5) 4) 18) 3) 3) 2) 1
 
--- `run-numbers`: a run is refused exactly under the conditions 1 to 5 and 13, in their order, for all bytes
+-- `run-numbers`: a run is refused exactly under these conditions, for all bytes
 abbrev pub RunNumbers : Type 0
 RunNumbers =
     (l b : ℕ) (s : List ℕ) (r : ControlRecord) (d : Devices) (cs t : List ℕ) → numberOf (runCall l b s r d cs t .result) ≡ dueNumber l b s r d cs
 
--- the first of the numbers 1 to 3 and 13 whose condition is met, 0 for none
+-- the first of the numbers 1, 2, 3, 18 and 13 whose condition is met, 0 for none
 abbrev pub dueOfAutoloadCall : List ℕ → ControlRecord → Devices → List ℕ → ℕ
 dueOfAutoloadCall s r d cs =
-    cond (sizeFits (length s)) (cond (cellsFit s) (cond (flagsFit r) (cond (controlFits (controlIn r)) (cond (fitsLent d cs) 0 13) 3) 3) 2) 1
+    cond (sizeFits (length s))
+    (cond (cellsFit s)
+    (cond (flagsFit r)
+    (cond (controlFits (registersIn r))
+    (cond (timerFits (timerIn r))
+    (cond (fitsLent d cs) 0 13) 18) 3) 3) 2) 1
 
 -- `autoload-call-numbers`: the autoload key is refused exactly under these conditions
 abbrev pub AutoloadCallNumbers : Type 0
 AutoloadCallNumbers = (s : List ℕ) (r : ControlRecord) (d : Devices) (cs : List ℕ) → autoloadCall s r d cs .result .refusal ≡ dueOfAutoloadCall s r d cs
 
--- the first of the numbers 1 to 3 and 14 to 16 whose condition is met, 0 for none: the text m is the remark if the byte g is not 0, o is the buffer
+-- the first of the numbers 1, 2, 3, 18 and 14 to 16 whose condition is met, 0 for none: the text m is the remark if the byte g is not 0, o is the buffer
 abbrev pub dueOfWrite : List ℕ → ControlRecord → ℕ → List ℕ → List ℕ → ℕ
 dueOfWrite s r g m o =
     let given = remarkOf (not (eqb g 0)) m in
     cond (sizeFits (length s))
     (cond (cellsFit s)
     (cond (flagsFit r)
-    (cond (controlFits (controlIn r))
+    (cond (controlFits (registersIn r))
+    (cond (timerFits (timerIn r))
     (cond (remarkFits given)
     (cond (leb (tapeSize s given) 65536)
-    (cond (leb (tapeSize s given) (length o)) 0 16) 15) 14) 3) 3) 2) 1
+    (cond (leb (tapeSize s given) (length o)) 0 16) 15) 14) 18) 3) 3) 2) 1
 
 -- `write-numbers`: the writing of a tape is refused exactly under these conditions
 abbrev pub WriteNumbers : Type 0
@@ -80,13 +87,13 @@ WriteNumbers = (s : List ℕ) (r : ControlRecord) (g : ℕ) (m o : List ℕ) →
 abbrev pub WriteAccepted : Type 0
 WriteAccepted =
     (s : List ℕ) (r : ControlRecord) (g : ℕ) (m o : List ℕ) → writeCall s r g m o .result .refusal ≡ 0
-    → let w = writing s (controlIn r) (remarkOf (not (eqb g 0)) m) o in
+    → let w = writing s (recordIn r) (remarkOf (not (eqb g 0)) m) o in
     (writeCall s r g m o .result .length ≡ w .answer .length) × (writeCall s r g m o .bytes ≡ w .bytes)
 
 -- ---- what a call hands back that its flag bytes do not refuse
 
 -- a key or a tape: the cells s, the refusal's number or 0, and the control record c where the call is accepted
-pub record HandsBack (s : List ℕ) (v : Verdict) (c : Control) (y : Returned StateResult) : Type 0 where
+pub record HandsBack (s : List ℕ) (v : Verdict) (c : Record) (y : Returned StateResult) : Type 0 where
   pub cells : y .cells ≡ s
   pub number : y .result .refusal ≡ verdictNumber v
   pub control : v ≡ Accepted → y .result .control ≡ recordOf c
@@ -98,22 +105,22 @@ HandsBackLoaded x y = HandsBack (x .cells) (x .state .verdict) (x .state .contro
 abbrev pub LoadCalls : Type 0
 LoadCalls =
     (t s : List ℕ) (r : ControlRecord)
-    → HandsBackLoaded (loading t s (controlIn r)) (loadCall t s r) × HandsBackLoaded (overlaying t s (controlIn r)) (overlayCall t s r)
+    → HandsBackLoaded (loading t s (recordIn r)) (loadCall t s r) × HandsBackLoaded (overlaying t s (recordIn r)) (overlayCall t s r)
 
-abbrev pub HandsBackPressed : Pressed Computer → Returned StateResult → Type 0
+abbrev pub HandsBackPressed : Pressed TimedComputer → Returned StateResult → Type 0
 HandsBackPressed x y = HandsBack (x .machine .cells) (x .verdict) (x .machine .control) y
 
 -- `key-calls`: the reset key and the start key hand back what `pressingReset` and `pressingStart` do
 abbrev pub KeyCalls : Type 0
 KeyCalls =
     (s : List ℕ) (r : ControlRecord) → flagsFit r ≡ true
-    → HandsBackPressed (pressingReset s (controlIn r)) (resetCall s r) × HandsBackPressed (pressingStart s (controlIn r)) (startCall s r)
+    → HandsBackPressed (pressingReset s (recordIn r)) (resetCall s r) × HandsBackPressed (pressingStart s (recordIn r)) (startCall s r)
 
 -- `autoload-calls`: the autoload key hands back what `autoloadLent` does
 abbrev pub AutoloadCalls : Type 0
 AutoloadCalls =
     (s : List ℕ) (r : ControlRecord) (d : Devices) (cs : List ℕ) → flagsFit r ≡ true
-    → let x = autoloadLent s (controlIn r) d cs in
+    → let x = autoloadLent s (recordIn r) d cs in
     let y = autoloadCall s r d cs in
     (y .cells ≡ x .cells) × (y .result .refusal ≡ verdictNumber (x .key .verdict))
     × (x .key .verdict ≡ Accepted → (y .result .control ≡ recordOf (x .key .control)) × (y .result .devices ≡ x .key .devices) × (y .result .taken ≡ x .key .taken))
@@ -136,7 +143,7 @@ endedRun o x =
 abbrev pub RunCalls : Type 0
 RunCalls =
     (l b : ℕ) (s : List ℕ) (r : ControlRecord) (d : Devices) (cs t : List ℕ) → flagsFit r ≡ true
-    → let x = runLent l b s (controlIn r) d cs t in
+    → let x = runLent l b s (recordIn r) d cs t in
     let y = runCall l b s r d cs t in
     (y .cells ≡ x .cells) × (y .typing ≡ x .typing) × ((o : Outcome) → x .run .answer ≡ Ended o → y .result ≡ endedRun o (x .run))
 

@@ -5,6 +5,8 @@ use mathlib.Core.Bool.{Bool, false, not, cond}
 use mathlib.Core.List.{List}
 use lib.Dec.{eqb, ltb}
 use Rattle.machine.specs.declared.Control.{Control}
+use Rattle.machine.specs.declared.Timer.{Timer}
+use Rattle.machine.specs.declared.Record.{Record}
 use Rattle.machine.specs.declared.Devices.{Devices}
 use Rattle.machine.specs.declared.Run.{Run}
 use Rattle.machine.specs.declared.Autoloaded.{Autoloaded}
@@ -19,7 +21,7 @@ use Rattle.machine.specs.declared.Answer.{Answer}
 use Rattle.machine.specs.declared.Answer.the-variants.{Refused, Ended}
 use Rattle.machine.specs.Answers.{refusalNumber, kindNumber}
 use Rattle.acceptance.specs.Accept.{judgeStore}
-use Rattle.definition_instructions.specs.Machine.{Computer}
+use Rattle.definition_runs.specs.Timed.{TimedComputer}
 use Rattle.definition_runs.specs.Keys.{Pressed, pressingReset, pressingStart}
 use Rattle.definition_runs.specs.Lent as Lent
 use Rattle.definition_runs.specs.Lent.{runLent, KeyReturned, autoloadLent}
@@ -50,15 +52,39 @@ flagOf b = eqb b 1
 unfoldable pub flagByte : Bool → ℕ
 flagByte f = cond f 1 0
 
--- the control record that bytes stand for
-unfoldable pub controlIn : ControlRecord → Control
-controlIn r =
+-- the control registers that bytes stand for
+unfoldable pub registersIn : ControlRecord → Control
+registersIn r =
     record { ic = r .ic; ir = r .ir; im = r .im; pending = r .pending; pr = r .pr; ex = r .ex; monitor = flagOf (r .monitor); enabled = flagOf (r .enabled); reset = flagOf (r .reset) }
 
+-- and the timer, field by field
+unfoldable pub timerIn : ControlRecord → Timer
+timerIn r = record { elapsed = r .elapsed; period = r .period; phase = r .phase; line = r .line }
+
+-- the control record that bytes stand for
+unfoldable pub recordIn : ControlRecord → Record
+recordIn r = record { registers = registersIn r; timer = timerIn r }
+
 -- the bytes of a control record
-unfoldable pub recordOf : Control → ControlRecord
-recordOf c =
-    record { ic = c .ic; ir = c .ir; im = c .im; pending = c .pending; pr = c .pr; ex = c .ex; monitor = flagByte (c .monitor); enabled = flagByte (c .enabled); reset = flagByte (c .reset) }
+unfoldable pub recordOf : Record → ControlRecord
+recordOf x =
+    let c = x .registers in
+    let t = x .timer in
+    record {
+      ic = c .ic;
+      ir = c .ir;
+      im = c .im;
+      pending = c .pending;
+      pr = c .pr;
+      ex = c .ex;
+      monitor = flagByte (c .monitor);
+      enabled = flagByte (c .enabled);
+      reset = flagByte (c .reset);
+      elapsed = t .elapsed;
+      period = t .period;
+      phase = t .phase;
+      line = t .line;
+    }
 
 -- a flag byte over 1: 3, where the store gives neither 1 nor 2; with bytes of 0 and 1 the call makes its own tests, from 1 on
 unfoldable pub judgeFlags : List ℕ → ControlRecord → Verdict
@@ -127,7 +153,7 @@ resultBy (Ended o) r d x =
       typed = x .typed;
     }
 
-abbrev pub stateBy : Verdict → ControlRecord → Control → StateResult
+abbrev pub stateBy : Verdict → ControlRecord → Record → StateResult
 stateBy (Rejected q) r c = refusedState q r
 stateBy Accepted r c = record { control = recordOf c; refusal = 0 }
 
@@ -156,35 +182,35 @@ runBy (Rejected q) r d s t x = runReturned (refusedRun q r d) s t
 runBy Accepted r d s t x = runReturned (resultBy (x .run .answer) r d (x .run)) (x .cells) (x .typing)
 
 unfoldable pub runCall : ℕ → ℕ → List ℕ → ControlRecord → Devices → List ℕ → List ℕ → RunReturned
-runCall l b s r d cs t = runBy (judgeFlags s r) r d s t (runLent l b s (controlIn r) d cs t)
+runCall l b s r d cs t = runBy (judgeFlags s r) r d s t (runLent l b s (recordIn r) d cs t)
 
 -- 3 for a flag byte, then the key
-abbrev pub keyBy : Verdict → ControlRecord → List ℕ → Pressed Computer → Returned StateResult
+abbrev pub keyBy : Verdict → ControlRecord → List ℕ → Pressed TimedComputer → Returned StateResult
 keyBy (Rejected q) r s x = returned (refusedState q r) s
 keyBy Accepted r s x = returned (stateBy (x .verdict) r (x .machine .control)) (x .machine .cells)
 
 unfoldable pub resetCall : List ℕ → ControlRecord → Returned StateResult
-resetCall s r = keyBy (judgeFlags s r) r s (pressingReset s (controlIn r))
+resetCall s r = keyBy (judgeFlags s r) r s (pressingReset s (recordIn r))
 
 unfoldable pub startCall : List ℕ → ControlRecord → Returned StateResult
-startCall s r = keyBy (judgeFlags s r) r s (pressingStart s (controlIn r))
+startCall s r = keyBy (judgeFlags s r) r s (pressingStart s (recordIn r))
 
 abbrev pub autoloadBy : Verdict → ControlRecord → Devices → List ℕ → KeyReturned → Returned AutoloadResult
 autoloadBy (Rejected q) r d s x = returned (refusedAutoload q r d) s
 autoloadBy Accepted r d s x = returned (autoloadedBy (x .key .verdict) r d (x .key)) (x .cells)
 
 unfoldable pub autoloadCall : List ℕ → ControlRecord → Devices → List ℕ → Returned AutoloadResult
-autoloadCall s r d cs = autoloadBy (judgeFlags s r) r d s (autoloadLent s (controlIn r) d cs)
+autoloadCall s r d cs = autoloadBy (judgeFlags s r) r d s (autoloadLent s (recordIn r) d cs)
 
 -- a load and an overlay do not test the given record (docs/DECISIONS.md, decision E4)
 abbrev pub loadBy : ControlRecord → Loaded → Returned StateResult
 loadBy r x = returned (stateBy (x .state .verdict) r (x .state .control)) (x .cells)
 
 unfoldable pub loadCall : List ℕ → List ℕ → ControlRecord → Returned StateResult
-loadCall t s r = loadBy r (loading t s (controlIn r))
+loadCall t s r = loadBy r (loading t s (recordIn r))
 
 unfoldable pub overlayCall : List ℕ → List ℕ → ControlRecord → Returned StateResult
-overlayCall t s r = loadBy r (overlaying t s (controlIn r))
+overlayCall t s r = loadBy r (overlaying t s (recordIn r))
 
 -- the first remark's place in the tape
 unfoldable pub textOf : Span → TextResult
@@ -197,4 +223,4 @@ writeBy Accepted o x = writeReturned (writeResultBy (x .answer .verdict) (x .ans
 
 -- the byte g is 0 where no remark is given
 unfoldable pub writeCall : List ℕ → ControlRecord → ℕ → List ℕ → List ℕ → WriteReturned
-writeCall s r g m o = writeBy (judgeFlags s r) o (writing s (controlIn r) (remarkOf (not (eqb g 0)) m) o)
+writeCall s r g m o = writeBy (judgeFlags s r) o (writing s (recordIn r) (remarkOf (not (eqb g 0)) m) o)

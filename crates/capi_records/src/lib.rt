@@ -1,6 +1,6 @@
 // The records of the C calls (host/include/rc4000.h). Enums do not cross: an outcome is two numbers, a verdict is one. A flag of the control record comes in as a byte, which is tested; `found` only goes out.
 ghost use mathlib.Core.Path.{_≡_};
-ghost use Rattle.capi_records.specs.Results.{flagByte, flagsFit, controlIn, recordOf, judgeFlags, outcomeCode, outcomeNumber, resultBy, refusedRun, stateBy, refusedState, autoloadedBy, refusedAutoload, refusedWrite, writeResultBy};
+ghost use Rattle.capi_records.specs.Results.{flagByte, flagsFit, registersIn, timerIn, recordIn, recordOf, judgeFlags, outcomeCode, outcomeNumber, resultBy, refusedRun, stateBy, refusedState, autoloadedBy, refusedAutoload, refusedWrite, writeResultBy};
 use definition_tape::Written;
 use machine::Answer;
 use machine::Autoloaded;
@@ -8,9 +8,11 @@ use machine::Control;
 use machine::Devices;
 use machine::Kind;
 use machine::Outcome;
+use machine::Record;
 use machine::Refusal;
 use machine::Run;
 use machine::State;
+use machine::Timer;
 use machine::Verdict;
 
 // The control record as it crosses.
@@ -25,6 +27,10 @@ pub struct ControlRecord {
     pub monitor: u8,
     pub enabled: u8,
     pub reset: u8,
+    pub elapsed: u32,
+    pub period: u32,
+    pub phase: u32,
+    pub line: u8,
 }
 
 #[repr(C)]
@@ -87,8 +93,8 @@ impl ControlRecord {
         false
     }
 
-    pub fn control(self) -> Control
-        ensures { λ r. ⌜ r ≡ controlIn self ⌝ }
+    fn registers(self) -> Control
+        ensures { λ r. ⌜ r ≡ registersIn self ⌝ }
     {
         Control {
             ic: self.ic,
@@ -103,9 +109,34 @@ impl ControlRecord {
         }
     }
 
-    fn of(c: Control) -> ControlRecord
-        ensures { λ r. ⌜ r ≡ recordOf c ⌝ }
+    fn timer(self) -> Timer
+        ensures { λ r. ⌜ r ≡ timerIn self ⌝ }
     {
+        Timer {
+            elapsed: self.elapsed,
+            period: self.period,
+            phase: self.phase,
+            line: self.line,
+        }
+    }
+
+    // The control record that the bytes stand for.
+    pub fn record(self) -> Record
+        ensures { λ r. ⌜ r ≡ recordIn self ⌝ }
+    {
+        let c = self.registers();
+        let t = self.timer();
+        Record {
+            registers: c,
+            timer: t,
+        }
+    }
+
+    fn of(x: Record) -> ControlRecord
+        ensures { λ r. ⌜ r ≡ recordOf x ⌝ }
+    {
+        let c = x.registers;
+        let t = x.timer;
         ControlRecord {
             ic: c.ic,
             ir: c.ir,
@@ -116,6 +147,10 @@ impl ControlRecord {
             monitor: flag_byte(c.monitor),
             enabled: flag_byte(c.enabled),
             reset: flag_byte(c.reset),
+            elapsed: t.elapsed,
+            period: t.period,
+            phase: t.phase,
+            line: t.line,
         }
     }
 }

@@ -6,8 +6,10 @@ use machine::Control;
 use machine::Devices;
 use machine::Kind;
 use machine::Outcome;
+use machine::Record;
 use machine::Run;
 use machine::State;
+use machine::Timer;
 use machine::Verdict;
 
 // What a case asks for, beside what it lends.
@@ -15,7 +17,7 @@ struct Call {
     kind: u32,
     lines: u32,
     budget: u32,
-    control: Control,
+    control: Record,
     devices: Devices,
 }
 
@@ -29,7 +31,7 @@ fn read_number() -> u32 {
     joined(b[0], b[1], b[2], b[3])
 }
 
-fn read_control() -> Control {
+fn read_registers() -> Control {
     let ic = read_number();
     let ir = read_number();
     let im = read_number();
@@ -50,6 +52,33 @@ fn read_control() -> Control {
     }
 }
 
+fn read_byte() -> u8 {
+    let n = read_number();
+    (n % 256) as u8
+}
+
+fn read_timer() -> Timer {
+    let elapsed = read_number();
+    let period = read_number();
+    let phase = read_number();
+    let line = read_byte();
+    Timer {
+        elapsed: elapsed,
+        period: period,
+        phase: phase,
+        line: line,
+    }
+}
+
+fn read_control() -> Record {
+    let c = read_registers();
+    let t = read_timer();
+    Record {
+        registers: c,
+        timer: t,
+    }
+}
+
 fn read_devices() -> Devices {
     let reader = read_number();
     let typewriter = read_number();
@@ -65,11 +94,6 @@ fn read_cells(store: &mut [u32]) {
         store[i] = read_number();
         i += 1;
     }
-}
-
-fn read_byte() -> u8 {
-    let n = read_number();
-    (n % 256) as u8
 }
 
 fn read_bytes(bytes: &mut [u8]) {
@@ -90,6 +114,10 @@ fn print_count(n: usize) {
     io::write_all(1, b" ");
 }
 
+fn wide(x: u8) -> u32 {
+    x as u32
+}
+
 fn bit(b: bool) -> u32 {
     if b { 1 } else { 0 }
 }
@@ -101,7 +129,7 @@ fn flags_of(c: Control) -> u32 {
     monitor % 2 + 2 * (enabled % 2) + 4 * (reset % 2)
 }
 
-fn print_control(c: Control) {
+fn print_registers(c: Control) {
     print(c.ic);
     print(c.ir);
     print(c.im);
@@ -109,6 +137,20 @@ fn print_control(c: Control) {
     print(c.pr);
     print(c.ex);
     print(flags_of(c));
+}
+
+fn print_timer(t: Timer) {
+    print(t.elapsed);
+    print(t.period);
+    print(t.phase);
+    print(wide(t.line));
+}
+
+fn print_control(r: Record) {
+    let c = r.registers;
+    let t = r.timer;
+    print_registers(c);
+    print_timer(t);
 }
 
 fn print_devices(d: Devices) {
@@ -130,10 +172,6 @@ fn checksum(store: &[u32]) -> u64 {
     h
 }
 
-fn wide(x: u8) -> u32 {
-    x as u32
-}
-
 fn checksum_of_bytes(bytes: &[u8]) -> u64 {
     let mut h: u64 = 0;
     let mut i: usize = 0;
@@ -144,7 +182,7 @@ fn checksum_of_bytes(bytes: &[u8]) -> u64 {
     h
 }
 
-fn print_machine(c: Control, d: Devices, store: &[u32], typing: &[u8]) {
+fn print_machine(c: Record, d: Devices, store: &[u32], typing: &[u8]) {
     print_control(c);
     print_devices(d);
     io::print_decimal(1, checksum(store));

@@ -4,7 +4,9 @@
 // of cells that are not zero, the number of the tape's bytes; then index and value of each cell that is not zero; then the tape.
 ghost use Prim.Native.Nat.{_≤_};
 use machine::Control;
+use machine::Record;
 use machine::State;
+use machine::Timer;
 use machine::Verdict;
 
 fn joined(b0: u8, b1: u8, b2: u8, b3: u8) -> u32 {
@@ -64,6 +66,20 @@ fn print_control(c: Control) {
     print_flag(c.reset);
 }
 
+fn print_timer(t: Timer) {
+    print(t.elapsed);
+    print(t.period);
+    print(t.phase);
+    print(wide(t.line));
+}
+
+fn print_record(r: Record) {
+    let c = r.registers;
+    let t = r.timer;
+    print_control(c);
+    print_timer(t);
+}
+
 fn print_change(i: usize, x: u32, before: bool) {
     if before {
         io::write_all(1, b",");
@@ -103,7 +119,6 @@ fn print_verdict(v: Verdict) {
     }
 }
 
-// A control record that no test accepts: it has to come back on a refusal.
 fn given_control() -> Control {
     Control {
         ic: 4294967295,
@@ -118,21 +133,34 @@ fn given_control() -> Control {
     }
 }
 
+// A control record that no test accepts: it has to come back on a refusal.
+fn given_record() -> Record {
+    Record {
+        registers: given_control(),
+        timer: Timer {
+            elapsed: 4294967295,
+            period: 5,
+            phase: 4294967294,
+            line: 255,
+        },
+    }
+}
+
 fn print_load(s: State, store: &[u32], given: &[u32]) {
     let v = s.verdict;
-    let c = s.control;
+    let r = s.control;
     print_verdict(v);
-    print_control(c);
+    print_record(r);
     print_changes(store, given);
     io::write_all(1, b"\n");
 }
 
 fn load_case(kind: u32, copy: &[u32], store: &mut [u32], tape: &[u8]) {
     if kind == 1 {
-        let s = tape_load::load(store, given_control(), tape);
+        let s = tape_load::load(store, given_record(), tape);
         print_load(s, store, copy);
     } else {
-        let s = tape_load::overlay(store, given_control(), tape);
+        let s = tape_load::overlay(store, given_record(), tape);
         print_load(s, store, copy);
     }
 }

@@ -3,7 +3,7 @@
 use Prim.Native.Nat.{ℕ}
 use mathlib.Core.List.{List}
 use Rattle.machine.specs.declared.Control.{Control}
-use Rattle.machine.specs.Records.{resetRecord}
+use Rattle.machine.specs.Records.{resetControl}
 use Rattle.definition_instructions.specs.Machine.{Computer, computer, Channel, Machine, connected, Effect, ok, fault}
 use Rattle.control_row.specs.declared.End.{End}
 use Rattle.control_row.specs.declared.End.the-variants.{Done, Reset, Faulted}
@@ -18,7 +18,7 @@ ending (fault f m) = faulted m
 
 abbrev pub endingOf : End → List ℕ → Control → Ending Computer
 endingOf Done s c = completed (computer s c)
-endingOf Reset s c = completed (computer s (resetRecord c))
+endingOf Reset s c = completed (computer s (resetControl c))
 endingOf Faulted s c = faulted (computer s c)
 
 -- with the channel h

@@ -12,27 +12,30 @@ use lib.Dec.{eqb}
 use lib.ListN.{length}
 use borrow.Author.Tests.{eqb-true, lt-ltb, le-leb, lt-leb}
 use Rattle.machine.specs.declared.Control.{Control}
+use Rattle.machine.specs.declared.Timer.{Timer}
+use Rattle.machine.specs.declared.Record.{Record}
 use Rattle.machine.specs.declared.Refusal.the-variants.{StoreSize, CellValue, ControlField}
 use Rattle.machine.specs.declared.Verdict.{Verdict}
 use Rattle.machine.specs.declared.Verdict.the-variants.{Accepted, Rejected}
 use Rattle.machine.specs.Store.{word, putWord, putKey, absent}
 use Rattle.machine.specs.Fields.{withIR, withEX, flagsCleared}
-use Rattle.machine.specs.Records.{resetRecord, returnAddress}
+use Rattle.machine.specs.Records.{resetControl, returnAddress}
 use Rattle.machine.specs.Answers.{verdictNumber}
 use Rattle.machine.proofs.StoreLaws.{length-putWord, word-other, word-same, key-putWord, length-putKey, word-putKey, key-other, key-same}
-use Rattle.acceptance.specs.Accept.{sizeFits, cellsFit, controlFits, judgeMachine, judgeDevices, judgeAutoload}
-use Rattle.acceptance.proofs.Tests.{both, passed-devices}
+use Rattle.acceptance.specs.Accept.{sizeFits, cellsFit, controlFits, judgeRegisters, timerFits, judgeTimer, judgeMachine, judgeDevices, judgeAutoload}
+use Rattle.acceptance.proofs.Tests.{both, passed-timer, passed-devices}
 use Rattle.integer.specs.Bitwise.{logicalOr}
 use Rattle.integer.proofs.Digits.{or-is}
-use Rattle.definition_instructions.specs.Machine.{Computer, computer, Channel, Machine, machine, computerOf, reached, resetSystem}
+use Rattle.definition_instructions.specs.Machine.{computer, Channel, Machine, machine, computerOf, reached, resetSystem}
 use Rattle.definition_instructions.specs.Channel.{readFrom, fourLeft, shiftedIn, assembled}
 use Rattle.definition_instructions.specs.MicroOps.{microStep, monitorStep, deviceStep, deviceSteps}
 use Rattle.definition_instructions.specs.Meaning.{autoloading}
 use Rattle.definition_instructions.proofs.Validity.{Valid, accepted-valid}
 use Rattle.definition_instructions.proofs.DeviceLaws.{Characters, fits-channel, ValidComputer}
-use Rattle.definition_runs.specs.Cycle.{bitFromLeft, requested, firstRequest, looksAtLines, lineOf, bitAlone, lineCleared, entryRecord, enter, cycle}
+use Rattle.definition_runs.specs.Cycle.{bitFromLeft, requested, firstRequest, looksAtLines, lineOf, bitAlone, lineCleared, entryControl, enter, cycle}
+use Rattle.definition_runs.specs.Timed.{TimedComputer, keepingTimer, TimedMachine, untimed, timed}
 use Rattle.definition_runs.specs.Run.{inReset, judgeOf, devicesFitOf}
-use Rattle.definition_runs.specs.Keys.{pressedBy, resetKey, startRecord, startKey, autoloadRecord, autoloadKey, pressingReset, pressingStart, judgeAutoloadOf, pressingAutoload}
+use Rattle.definition_runs.specs.Keys.{pressedBy, resetKey, startControl, startKey, autoloadControl, autoloadKey, pressingReset, pressingStart, judgeAutoloadOf, pressingAutoload}
 use Rattle.cycle_promises.specs.Claims.{SameCells, ResetPressed, StartPressed, ResetKey, StartKey, RefusedKeys, KeyNumbers, AutoloadPressed, AutoloadKey, RefusedAutoload, AutoloadNumbers, AssembledWord, Entered, LineTaken, EntryBy, EntryOfCycle, LinesTaken}
 use Rattle.definition_runs.proofs.RunLaws.{Meets}
 use Rattle.definition_runs.proofs.CycleLaws.{entered, lined, cycle-meets}
@@ -47,33 +50,45 @@ same-put a s v = record { size = length-putWord s (a / 2) v; keys = key-putWord 
 pressed-machine : {M : Type 0} (v : Verdict) (m n : M) → v ≡ Accepted → pressedBy v m n .machine ≡ n
 pressed-machine v m n e = rw e
 
-reset-pressed : (m : Computer) → Valid m → ResetPressed m (resetSystem (m .cells) (m .control))
-unfolding resetSystem resetRecord
+-- a record that passes 1 to 3 and 18 is valid
+passed-valid : (s : List ℕ) (r : Record) → judgeMachine s r ≡ Accepted → Valid (computer s (r .registers))
+unfolding judgeMachine
+passed-valid s r e = accepted-valid (computer s (r .registers)) (passed-timer (judgeRegisters s (r .registers)) (r .timer) e .0)
+
+reset-pressed : (m : TimedComputer) → Valid (computer (m .cells) (m .control .registers))
+    → ResetPressed m (keepingTimer (m .control .timer) (resetSystem (m .cells) (m .control .registers)))
+unfolding resetSystem resetControl
 reset-pressed m h =
     record {
-      word10 = word-same (m .cells) 5 (m .control .ic) (omega (arith, h .least)) ∙ mod-eq-of-lt (h .widths .ic);
+      word10 = word-same (m .cells) 5 (m .control .registers .ic) (omega (arith, h .least)) ∙ mod-eq-of-lt (h .widths .ic);
       state = (refl, record { monitor = refl; disabled = refl; pending = refl });
-      cells = same-put returnAddress (m .cells) (m .control .ic);
+      cells = same-put returnAddress (m .cells) (m .control .registers .ic);
       kept = (refl, refl, record { im = refl; pr = refl; ex = refl });
+      timer = refl;
     }
 
 pub reset-key : ResetKey
 unfolding pressingReset resetKey
 reset-key m e =
-    let pressed = pressed-machine (judgeMachine (m .cells) (m .control)) m (resetKey (m .cells) (m .control)) e in
-    let by : Bool → Computer = λ b. cond b m (resetSystem (m .cells) (m .control)) in
-    (λ o. subst (ResetPressed m) (sym (pressed ∙ ap by o)) (reset-pressed m (accepted-valid m e)), λ i. pressed ∙ ap by i)
+    let s = m .cells in
+    let c = m .control .registers in
+    let by : Bool → TimedComputer = λ b. keepingTimer (m .control .timer) (cond b (computer s c) (resetSystem s c)) in
+    let pressed = pressed-machine (judgeMachine s (m .control)) m (by (c .reset)) e in
+    (λ o. subst (ResetPressed m) (sym (pressed ∙ ap by o)) (reset-pressed m (passed-valid s (m .control) e)), λ i. pressed ∙ ap by i)
 
-start-pressed : (m : Computer) → StartPressed m (computer (m .cells) (startRecord (m .control) (word (m .cells) 7)))
-unfolding startRecord
+start-pressed : (m : TimedComputer)
+    → StartPressed m (keepingTimer (m .control .timer) (computer (m .cells) (startControl (m .control .registers) (word (m .cells) 7))))
+unfolding startControl
 start-pressed m =
-    record { ic = refl; state = refl; cells = refl; kept = (refl, refl, record { im = refl; pr = refl; ex = refl }); modes = (refl, refl) }
+    record { ic = refl; state = refl; cells = refl; kept = (refl, refl, record { im = refl; pr = refl; ex = refl }); modes = (refl, refl); timer = refl }
 
 pub start-key : StartKey
 unfolding pressingStart startKey
 start-key m e =
-    let pressed = pressed-machine (judgeMachine (m .cells) (m .control)) m (startKey (m .cells) (m .control)) e in
-    let by : Bool → Computer = λ b. cond b (computer (m .cells) (startRecord (m .control) (word (m .cells) 7))) m in
+    let s = m .cells in
+    let c = m .control .registers in
+    let by : Bool → TimedComputer = λ b. keepingTimer (m .control .timer) (cond b (computer s (startControl c (word s 7))) (computer s c)) in
+    let pressed = pressed-machine (judgeMachine s (m .control)) m (by (c .reset)) e in
     (λ i. subst (StartPressed m) (sym (pressed ∙ ap by i)) (start-pressed m), λ o. pressed ∙ ap by o)
 
 pub refused-keys : RefusedKeys
@@ -84,18 +99,23 @@ number-kept : {M : Type 0} (v : Verdict) (m n : M) → verdictNumber (pressedBy 
 number-kept Accepted m n = refl
 number-kept (Rejected q) m n = refl
 
-machine-number : (a b c : Bool) → verdictNumber (cond a (cond b (cond c Accepted (Rejected ControlField)) (Rejected CellValue)) (Rejected StoreSize)) ≡ cond a (cond b (cond c 0 3) 2) 1
-machine-number true true true = refl
-machine-number true true false = refl
-machine-number true false c = refl
-machine-number false b c = refl
+record-number : (a b c d : Bool) (t : Timer) → timerFits t ≡ d
+    → verdictNumber (judgeTimer (cond a (cond b (cond c Accepted (Rejected ControlField)) (Rejected CellValue)) (Rejected StoreSize)) t)
+    ≡ cond a (cond b (cond c (cond d 0 18) 3) 2) 1
+record-number true true true true t e = rw e
+record-number true true true false t e = rw e
+record-number true true false d t e = refl
+record-number true false c d t e = refl
+record-number false b c d t e = refl
 
 pub key-numbers : KeyNumbers
-unfolding pressingReset pressingStart judgeMachine
+unfolding pressingReset pressingStart judgeMachine judgeRegisters
 key-numbers m =
-    let due = machine-number (sizeFits (length (m .cells))) (cellsFit (m .cells)) (controlFits (m .control)) in (
-      number-kept (judgeMachine (m .cells) (m .control)) m (resetKey (m .cells) (m .control)) ∙ due,
-      number-kept (judgeMachine (m .cells) (m .control)) m (startKey (m .cells) (m .control)) ∙ due,
+    let s = m .cells in
+    let r = m .control in
+    let due = record-number (sizeFits (length s)) (cellsFit s) (controlFits (r .registers)) (timerFits (r .timer)) (r .timer) refl in (
+      number-kept (judgeMachine s r) m (keepingTimer (r .timer) (resetKey s (r .registers))) ∙ due,
+      number-kept (judgeMachine s r) m (keepingTimer (r .timer) (startKey s (r .registers))) ∙ due,
     )
 
 -- ---- the line that is taken
@@ -149,7 +169,7 @@ other-ir m n r e =
     record { number = e .number; returns = e .returns; ic = e .ic; state = e .state; cells = e .cells; kept = (e .kept .0, record { im = e .kept .1 .im; pr = e .kept .1 .pr; ex = e .kept .1 .ex }); channel = e .channel }
 
 line-taken : (m : Machine) → ValidComputer m → lineOf (m .control) < 24 → LineTaken (lineOf (m .control)) m (entered (lineOf (m .control) * 2) (lined m))
-unfolding lineOf looksAtLines requested lineCleared enter entryRecord
+unfolding lineOf looksAtLines requested lineCleared enter entryControl
 line-taken m h l =
     let c = m .control in
     let p = lineOf c in
@@ -184,8 +204,8 @@ lines-taken m p l e n a b =
     let taken : lineOf c < 24 = rw looks (omega (arith, first-least p (c .ir) (c .im) a b)) in
     rw (lt-ltb (lineOf c) 24 taken)
 
-entry-by : (m : Machine) → ValidComputer m → inReset m ≡ false → Meets ValidComputer (λ k n. EntryBy k m n) (cycle m)
-unfolding enter entryRecord
+entry-by : (m : Machine) → ValidComputer m → m .control .reset ≡ false → Meets ValidComputer (λ k n. EntryBy k m n) (cycle m)
+unfolding enter entryControl
 entry-by m h e =
     cycle-meets ValidComputer (λ k n. EntryBy k m n) m (valid-fetch m e h)
     (λ f n q v. record { cause = f; left = n; met = q; ir = refl; entered = entry-made 0 n (omega arith) v })
@@ -202,19 +222,23 @@ pub refused-autoload : RefusedAutoload
 unfolding pressingAutoload
 refused-autoload m q e = rw e
 
-autoload-number : (a b c f : Bool)
-    → verdictNumber (judgeDevices (cond a (cond b (cond c Accepted (Rejected ControlField)) (Rejected CellValue)) (Rejected StoreSize)) f)
-    ≡ cond a (cond b (cond c (cond f 0 13) 3) 2) 1
-autoload-number true true true true = refl
-autoload-number true true true false = refl
-autoload-number true true false f = refl
-autoload-number true false c f = refl
-autoload-number false b c f = refl
+autoload-number : (a b c d f : Bool) (t : Timer) → timerFits t ≡ d
+    → verdictNumber (judgeDevices (judgeTimer (cond a (cond b (cond c Accepted (Rejected ControlField)) (Rejected CellValue)) (Rejected StoreSize)) t) f)
+    ≡ cond a (cond b (cond c (cond d (cond f 0 13) 18) 3) 2) 1
+autoload-number true true true true true t e = rw e
+autoload-number true true true true false t e = rw e
+autoload-number true true true false f t e = rw e
+autoload-number true true false d f t e = refl
+autoload-number true false c d f t e = refl
+autoload-number false b c d f t e = refl
 
 pub autoload-numbers : AutoloadNumbers
-unfolding pressingAutoload judgeAutoload judgeMachine
+unfolding pressingAutoload judgeAutoload judgeMachine judgeRegisters
 autoload-numbers m =
-    number-kept (judgeAutoloadOf m) m (autoloadKey m) ∙ autoload-number (sizeFits (length (m .cells))) (cellsFit (m .cells)) (controlFits (m .control)) (devicesFitOf m)
+    let s = m .cells in
+    let r = m .control in
+    number-kept (judgeAutoloadOf m) m (timed (r .timer) (autoloadKey (untimed m)))
+    ∙ autoload-number (sizeFits (length s)) (cellsFit s) (controlFits (r .registers)) (timerFits (r .timer)) (devicesFitOf m) (r .timer) refl
 
 -- a character is shifted into AR
 shifted : (ar c : ℕ) → ar < 262144 → c < 64 → shiftedIn ar c ≡ ar * 64 + c
@@ -234,12 +258,12 @@ abbrev reading : List ℕ → Channel → Channel
 reading cs h = record { reader = h .reader; typewriter = h .typewriter; characters = cs; typed = h .typed; space = h .space }
 
 abbrev autoloaded : List ℕ → Machine → Machine
-autoloaded cs m = reached (deviceSteps 0 (autoloading 0 cs) (machine (m .cells) (autoloadRecord (m .control)) (reading cs (m .channel))))
+autoloaded cs m = reached (deviceSteps 0 (autoloading 0 cs) (machine (m .cells) (autoloadControl (m .control)) (reading cs (m .channel))))
 
 loads : (a b c d : ℕ) (cs : List ℕ) (m : Machine) → 8 ≤ length (m .cells)
     → autoloaded (a ∷ b ∷ c ∷ d ∷ cs) m
     ≡ machine (putKey (putWord (m .cells) 0 (assembled 4 0 (a ∷ b ∷ c ∷ d ∷ cs))) 0 0)
-    (flagsCleared (flagsCleared (flagsCleared (flagsCleared (autoloadRecord (m .control))))))
+    (flagsCleared (flagsCleared (flagsCleared (flagsCleared (autoloadControl (m .control))))))
     (record { reader = d; typewriter = m .channel .typewriter; characters = cs; typed = m .channel .typed; space = m .channel .space })
 unfolding deviceSteps deviceStep monitorStep microStep autoloading readFrom absent
 loads a b c d cs m l = rw (lt-leb (length (m .cells)) 0 (omega arith))
@@ -251,14 +275,14 @@ cleared-again x l =
     let twice : x / 4 * 4 / 4 * 4 ≡ x / 4 * 4 = omega arith in
     rw (once, twice, once, twice, once, twice, once)
 
-autoload-pressed : (cs : List ℕ) (m : Machine) → Valid (computerOf m) → Characters cs → 4 ≤ length cs
-    → AutoloadPressed (machine (m .cells) (m .control) (reading cs (m .channel))) (autoloaded cs m)
-unfolding Characters flagsCleared withEX autoloadRecord
-autoload-pressed [] m h v l = absurd (omega arith)
-autoload-pressed (a ∷ []) m h v l = absurd (omega arith)
-autoload-pressed (a ∷ b ∷ []) m h v l = absurd (omega arith)
-autoload-pressed (a ∷ b ∷ c ∷ []) m h v l = absurd (omega arith)
-autoload-pressed (a ∷ b ∷ c ∷ d ∷ cs) m h v l =
+autoload-pressed : (cs : List ℕ) (m : Machine) (r : Timer) → Valid (computerOf m) → Characters cs → 4 ≤ length cs
+    → AutoloadPressed (timed r (machine (m .cells) (m .control) (reading cs (m .channel)))) (timed r (autoloaded cs m))
+unfolding Characters flagsCleared withEX autoloadControl
+autoload-pressed [] m r h v l = absurd (omega arith)
+autoload-pressed (a ∷ []) m r h v l = absurd (omega arith)
+autoload-pressed (a ∷ b ∷ []) m r h v l = absurd (omega arith)
+autoload-pressed (a ∷ b ∷ c ∷ []) m r h v l = absurd (omega arith)
+autoload-pressed (a ∷ b ∷ c ∷ d ∷ cs) m r h v l =
     let w = assembled 4 0 (a ∷ b ∷ c ∷ d ∷ cs) in
     let value : w ≡ a * 262144 + b * 4096 + c * 64 + d = assembled-word a b c d cs (v 0) (v 1) (v 2) (v 3) in
     let small : w < 16777216 = rw value (omega (arith, v 0, v 1, v 2, v 3)) in
@@ -273,6 +297,7 @@ autoload-pressed (a ∷ b ∷ c ∷ d ∷ cs) m h v l =
       state = refl;
       kept = (refl, refl, refl, refl);
       modes = (refl, refl);
+      timer = refl;
       characters = refl;
       register = refl;
       typewriter = (refl, refl, refl);
@@ -281,17 +306,19 @@ autoload-pressed (a ∷ b ∷ c ∷ d ∷ cs) m h v l =
 pub autoload-key : AutoloadKey
 unfolding pressingAutoload autoloadKey fourLeft judgeAutoload
 autoload-key m e =
-    let pressed = pressed-machine (judgeAutoloadOf m) m (autoloadKey m) e in
+    let k = untimed m in
+    let r = m .control .timer in
     let cs = m .channel .characters in
-    let four : Bool → Machine = λ b. cond b (autoloaded cs m) m in
-    let by : Bool → Machine = λ b. cond b (four (fourLeft cs)) m in
+    let four : Bool → Machine = λ b. cond b (autoloaded cs k) k in
+    let by : Bool → TimedMachine = λ b. timed r (cond b (four (fourLeft cs)) k) in
+    let pressed = pressed-machine (judgeAutoloadOf m) m (by (inReset m)) e in
     let fits = passed-devices (judgeOf m) (devicesFitOf m) e in (
-      λ i l. subst (AutoloadPressed m) (sym (pressed ∙ ap by i ∙ ap four (le-leb 4 (length cs) l)))
-          (autoload-pressed cs m (accepted-valid (computerOf m) (fits .0)) (fits-channel (m .channel) (fits .1) .characters) l),
+      λ i l. subst (AutoloadPressed m) (sym (pressed ∙ ap by i ∙ ap (λ b. timed r (four b)) (le-leb 4 (length cs) l)))
+          (autoload-pressed cs k r (passed-valid (m .cells) (m .control) (fits .0)) (fits-channel (m .channel) (fits .1) .characters) l),
       λ o. pressed ∙ ap by o,
-      λ l. pressed ∙ ap (λ b. cond (m .control .reset) (four b) m) (lt-leb 4 (length cs) l) ∙ same (m .control .reset),
+      λ l. pressed ∙ ap (λ b. timed r (cond (inReset m) (four b) k)) (lt-leb 4 (length cs) l) ∙ ap (timed r) (same (inReset m)),
     )
   where
-    same : (b : Bool) → cond b m m ≡ m
+    same : (b : Bool) → cond b (untimed m) (untimed m) ≡ untimed m
     same true = refl
     same false = refl

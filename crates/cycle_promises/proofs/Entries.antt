@@ -13,8 +13,7 @@ use Rattle.machine.specs.Answers.{kindNumber}
 use Rattle.machine.proofs.StoreLaws.{length-putWord, word-other, word-same, key-putWord}
 use Rattle.definition_instructions.specs.Machine.{Machine}
 use Rattle.definition_instructions.proofs.DeviceLaws.{ValidComputer}
-use Rattle.definition_runs.specs.Cycle.{lineOf, entryRecord, enter, cycle}
-use Rattle.definition_runs.specs.Run.{inReset}
+use Rattle.definition_runs.specs.Cycle.{lineOf, entryControl, enter, cycle}
 use Rattle.cycle_promises.specs.Claims.{SameCells, Entered}
 use Rattle.definition_runs.proofs.RunLaws.{Meets}
 use Rattle.definition_runs.proofs.CycleLaws.{entered, lined, cycle-meets}
@@ -36,7 +35,7 @@ second-word : (s : List ℕ) (v i : ℕ) → 5 < length s → i < 16777216 → w
 second-word s v i l h = word-same (putWord s 4 v) 5 i (rw length-putWord l) ∙ mod-eq-of-lt h
 
 pub entry-made : (v : ℕ) (n : Machine) → v < 16777216 → ValidComputer n → Entered v n (entered v n)
-unfolding enter entryRecord
+unfolding enter entryControl
 entry-made v n l h =
     record {
       number = first-word (n .cells) v _ (omega (arith, h .least)) l;
@@ -51,7 +50,7 @@ entry-made v n l h =
 abbrev pub Stored : Kind → Machine → Type 0
 Stored k m = word (m .cells) 4 ≡ kindNumber k
 
-pub cycle-stores : (m : Machine) → inReset m ≡ false → ValidComputer m → Meets ValidComputer Stored (cycle m)
+pub cycle-stores : (m : Machine) → m .control .reset ≡ false → ValidComputer m → Meets ValidComputer Stored (cycle m)
 cycle-stores m e h =
     cycle-meets ValidComputer Stored m (valid-fetch m e h) (λ f n q h. entry-made 0 n (omega arith) h .number)
     (λ l. entry-made (lineOf (m .control) * 2) (lined m) (omega arith) (valid-lined m h) .number)

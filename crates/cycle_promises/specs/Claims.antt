@@ -15,12 +15,13 @@ use Rattle.machine.specs.declared.Verdict.the-variants.{Accepted, Rejected}
 use Rattle.machine.specs.Store.{word, key}
 use Rattle.machine.specs.Records.{interruptNumber, returnAddress, interruptionProgram, startAddress}
 use Rattle.machine.specs.Answers.{verdictNumber}
-use Rattle.acceptance.specs.Accept.{sizeFits, cellsFit, controlFits, judgeMachine}
-use Rattle.definition_instructions.specs.Machine.{Computer, Machine, fault}
+use Rattle.acceptance.specs.Accept.{sizeFits, cellsFit, controlFits, judgeRegisters, timerFits, judgeMachine}
+use Rattle.definition_instructions.specs.Machine.{Machine, fault}
 use Rattle.definition_instructions.specs.Channel.{assembled}
 use Rattle.definition_runs.specs.GenericRun.{CycleResult, instruction, entry}
 use Rattle.definition_runs.specs.Cycle.{bitFromLeft, fetch, cycle}
-use Rattle.definition_runs.specs.Run.{inReset, judgeOf, devicesFitOf}
+use Rattle.definition_runs.specs.Timed.{TimedComputer, TimedMachine}
+use Rattle.definition_runs.specs.Run.{inReset, devicesFitOf}
 use Rattle.definition_runs.specs.Keys.{pressingReset, pressingStart, judgeAutoloadOf, pressingAutoload}
 
 -- the store t has the size and the keys of s, and its words in all cells but those of the addresses a and b
@@ -43,67 +44,77 @@ pub record InMonitor (c : Control) : Type 0 where
 
 -- ---- Panel keys
 
--- reset stores IC in word 10, clears the pending modification and sets the reset state
-pub record ResetPressed (m n : Computer) : Type 0 where
-  pub word10 : word (n .cells) (returnAddress / 2) ≡ m .control .ic
-  pub state : (n .control .reset ≡ true) × InMonitor (n .control)
+-- reset stores IC in word 10, clears the pending modification and sets the reset state; no key takes time: the timer stays
+pub record ResetPressed (m n : TimedComputer) : Type 0 where
+  pub word10 : word (n .cells) (returnAddress / 2) ≡ m .control .registers .ic
+  pub state : (n .control .registers .reset ≡ true) × InMonitor (n .control .registers)
   pub cells : SameCells returnAddress returnAddress (m .cells) (n .cells)
-  pub kept : (n .control .ic ≡ m .control .ic) × (n .control .ir ≡ m .control .ir) × SameRegisters (m .control) (n .control)
+  pub kept :
+      (n .control .registers .ic ≡ m .control .registers .ic) × (n .control .registers .ir ≡ m .control .registers .ir)
+      × SameRegisters (m .control .registers) (n .control .registers)
+  pub timer : n .control .timer ≡ m .control .timer
 
--- start takes IC from word 14, bit 23 cleared, and leaves the reset state
-pub record StartPressed (m n : Computer) : Type 0 where
-  pub ic : n .control .ic ≡ word (m .cells) (startAddress / 2) / 2 * 2
-  pub state : n .control .reset ≡ false
+-- start takes IC from word 14, bit 23 cleared, and leaves the reset state; the timer stays
+pub record StartPressed (m n : TimedComputer) : Type 0 where
+  pub ic : n .control .registers .ic ≡ word (m .cells) (startAddress / 2) / 2 * 2
+  pub state : n .control .registers .reset ≡ false
   pub cells : n .cells ≡ m .cells
-  pub kept : (n .control .ir ≡ m .control .ir) × (n .control .pending ≡ m .control .pending) × SameRegisters (m .control) (n .control)
-  pub modes : (n .control .monitor ≡ m .control .monitor) × (n .control .enabled ≡ m .control .enabled)
+  pub kept :
+      (n .control .registers .ir ≡ m .control .registers .ir) × (n .control .registers .pending ≡ m .control .registers .pending)
+      × SameRegisters (m .control .registers) (n .control .registers)
+  pub modes : (n .control .registers .monitor ≡ m .control .registers .monitor) × (n .control .registers .enabled ≡ m .control .registers .enabled)
+  pub timer : n .control .timer ≡ m .control .timer
 
 -- the reset key outside the reset state does that, and in the reset state it changes nothing
 abbrev pub ResetKey : Type 0
 ResetKey =
-    (m : Computer) → judgeMachine (m .cells) (m .control) ≡ Accepted
-    → (m .control .reset ≡ false → ResetPressed m (pressingReset (m .cells) (m .control) .machine))
-    × (m .control .reset ≡ true → pressingReset (m .cells) (m .control) .machine ≡ m)
+    (m : TimedComputer) → judgeMachine (m .cells) (m .control) ≡ Accepted
+    → (m .control .registers .reset ≡ false → ResetPressed m (pressingReset (m .cells) (m .control) .machine))
+    × (m .control .registers .reset ≡ true → pressingReset (m .cells) (m .control) .machine ≡ m)
 
 -- the start key in the reset state does that, and elsewhere it changes nothing
 abbrev pub StartKey : Type 0
 StartKey =
-    (m : Computer) → judgeMachine (m .cells) (m .control) ≡ Accepted
-    → (m .control .reset ≡ true → StartPressed m (pressingStart (m .cells) (m .control) .machine))
-    × (m .control .reset ≡ false → pressingStart (m .cells) (m .control) .machine ≡ m)
+    (m : TimedComputer) → judgeMachine (m .cells) (m .control) ≡ Accepted
+    → (m .control .registers .reset ≡ true → StartPressed m (pressingStart (m .cells) (m .control) .machine))
+    × (m .control .registers .reset ≡ false → pressingStart (m .cells) (m .control) .machine ≡ m)
 
 -- a refused key changes nothing, and says why
 abbrev pub RefusedKeys : Type 0
 RefusedKeys =
-    (m : Computer) (q : Refusal) → judgeMachine (m .cells) (m .control) ≡ Rejected q
+    (m : TimedComputer) (q : Refusal) → judgeMachine (m .cells) (m .control) ≡ Rejected q
     → (pressingReset (m .cells) (m .control) ≡ record { machine = m; verdict = Rejected q })
     × (pressingStart (m .cells) (m .control) ≡ record { machine = m; verdict = Rejected q })
 
--- the first of the numbers 1 to 3 whose condition is met, 0 for none
-abbrev pub dueOfKey : Computer → ℕ
-dueOfKey m = cond (sizeFits (length (m .cells))) (cond (cellsFit (m .cells)) (cond (controlFits (m .control)) 0 3) 2) 1
+-- the first of the numbers 1, 2, 3 and 18 whose condition is met, 0 for none
+abbrev pub dueOfKey : TimedComputer → ℕ
+dueOfKey m =
+    cond (sizeFits (length (m .cells))) (cond (cellsFit (m .cells)) (cond (controlFits (m .control .registers)) (cond (timerFits (m .control .timer)) 0 18) 3) 2) 1
 
 -- a key is refused by these numbers, and by no others
 abbrev pub KeyNumbers : Type 0
 KeyNumbers =
-    (m : Computer)
+    (m : TimedComputer)
     → (verdictNumber (pressingReset (m .cells) (m .control) .verdict) ≡ dueOfKey m)
     × (verdictNumber (pressingStart (m .cells) (m .control) .verdict) ≡ dueOfKey m)
 
 -- ---- Autoload key
 
 -- four characters go into W0, the first one left-most, and its key is zero; the fourth stands in the reader's register; EX(22:23) and IC are zero, and the
--- reset state is left
-pub record AutoloadPressed (m n : Machine) : Type 0 where
+-- reset state is left; the timer stays
+pub record AutoloadPressed (m n : TimedMachine) : Type 0 where
   pub loaded : word (n .cells) 0 ≡ assembled 4 0 (m .channel .characters)
   pub unprotected : key (n .cells) 0 ≡ 0
   pub size : length (n .cells) ≡ length (m .cells)
   pub cells : (i : ℕ) → i ≢ 0 → (word (n .cells) i ≡ word (m .cells) i) × (key (n .cells) i ≡ key (m .cells) i)
-  pub ic : n .control .ic ≡ 0
-  pub ex : n .control .ex ≡ m .control .ex / 4 * 4
-  pub state : n .control .reset ≡ false
-  pub kept : (n .control .ir ≡ m .control .ir) × (n .control .im ≡ m .control .im) × (n .control .pr ≡ m .control .pr) × (n .control .pending ≡ m .control .pending)
-  pub modes : (n .control .monitor ≡ m .control .monitor) × (n .control .enabled ≡ m .control .enabled)
+  pub ic : n .control .registers .ic ≡ 0
+  pub ex : n .control .registers .ex ≡ m .control .registers .ex / 4 * 4
+  pub state : n .control .registers .reset ≡ false
+  pub kept :
+      (n .control .registers .ir ≡ m .control .registers .ir) × (n .control .registers .im ≡ m .control .registers .im)
+      × (n .control .registers .pr ≡ m .control .registers .pr) × (n .control .registers .pending ≡ m .control .registers .pending)
+  pub modes : (n .control .registers .monitor ≡ m .control .registers .monitor) × (n .control .registers .enabled ≡ m .control .registers .enabled)
+  pub timer : n .control .timer ≡ m .control .timer
   pub characters : n .channel .characters ≡ drop 4 (m .channel .characters)
   pub register : n .channel .reader ≡ getD (m .channel .characters) 3 0
   pub typewriter : (n .channel .typewriter ≡ m .channel .typewriter) × (n .channel .typed ≡ m .channel .typed) × (n .channel .space ≡ m .channel .space)
@@ -111,22 +122,23 @@ pub record AutoloadPressed (m n : Machine) : Type 0 where
 -- the autoload key in the reset state, with four characters left, does that; in another state, or with fewer characters, it changes nothing
 abbrev pub AutoloadKey : Type 0
 AutoloadKey =
-    (m : Machine) → judgeAutoloadOf m ≡ Accepted
+    (m : TimedMachine) → judgeAutoloadOf m ≡ Accepted
     → (inReset m ≡ true → 4 ≤ length (m .channel .characters) → AutoloadPressed m (pressingAutoload m .machine))
     × (inReset m ≡ false → pressingAutoload m .machine ≡ m)
     × (length (m .channel .characters) < 4 → pressingAutoload m .machine ≡ m)
 
 -- refused, it changes nothing, and says why
 abbrev pub RefusedAutoload : Type 0
-RefusedAutoload = (m : Machine) (q : Refusal) → judgeAutoloadOf m ≡ Rejected q → pressingAutoload m ≡ record { machine = m; verdict = Rejected q }
+RefusedAutoload = (m : TimedMachine) (q : Refusal) → judgeAutoloadOf m ≡ Rejected q → pressingAutoload m ≡ record { machine = m; verdict = Rejected q }
 
--- the first of the numbers 1 to 3 and 13 whose condition is met, 0 for none
-abbrev pub dueOfAutoload : Machine → ℕ
+-- the first of the numbers 1, 2, 3, 18 and 13 whose condition is met, 0 for none
+abbrev pub dueOfAutoload : TimedMachine → ℕ
 dueOfAutoload m =
-    cond (sizeFits (length (m .cells))) (cond (cellsFit (m .cells)) (cond (controlFits (m .control)) (cond (devicesFitOf m) 0 13) 3) 2) 1
+    cond (sizeFits (length (m .cells)))
+    (cond (cellsFit (m .cells)) (cond (controlFits (m .control .registers)) (cond (timerFits (m .control .timer)) (cond (devicesFitOf m) 0 13) 18) 3) 2) 1
 
 abbrev pub AutoloadNumbers : Type 0
-AutoloadNumbers = (m : Machine) → verdictNumber (pressingAutoload m .verdict) ≡ dueOfAutoload m
+AutoloadNumbers = (m : TimedMachine) → verdictNumber (pressingAutoload m .verdict) ≡ dueOfAutoload m
 
 -- the word of four characters
 abbrev pub AssembledWord : Type 0
@@ -170,7 +182,7 @@ EntryBy (Line v) m n = (v ≡ v / 2 * 2) × LineTaken (v / 2) m n
 
 -- what a cycle does that is an entry
 abbrev pub EntryOfCycle : Type 0
-EntryOfCycle = (m n : Machine) (k : Kind) → judgeOf m ≡ Accepted → inReset m ≡ false → cycle m ≡ entry k n → EntryBy k m n
+EntryOfCycle = (m n : Machine) (k : Kind) → judgeRegisters (m .cells) (m .control) ≡ Accepted → m .control .reset ≡ false → cycle m ≡ entry k n → EntryBy k m n
 
 abbrev pub takesLine : CycleResult Machine → Bool
 takesLine (instruction m) = false

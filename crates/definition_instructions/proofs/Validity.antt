@@ -12,9 +12,9 @@ use Rattle.machine.specs.declared.Control.{Control}
 use Rattle.machine.specs.declared.Verdict.the-variants.{Accepted}
 use Rattle.machine.specs.Store.{putWord, putKey}
 use Rattle.machine.specs.Fields.{inTask, withIC, withIR, withIM, withPending, withPR, withEX, withEnabled}
-use Rattle.machine.specs.Records.{resetRecord}
+use Rattle.machine.specs.Records.{resetControl}
 use Rattle.machine.proofs.StoreLaws.{length-putWord, length-putKey, Cells, cells-putWord, cells-putKey}
-use Rattle.acceptance.specs.Accept.{sizeFits, cellsFit, stateFits, controlFits, judgeMachine}
+use Rattle.acceptance.specs.Accept.{sizeFits, cellsFit, stateFits, controlFits, judgeRegisters}
 use Rattle.acceptance.proofs.Tests.{both, neither, passed}
 use Rattle.definition_instructions.specs.Machine.{Computer, computer, reached, resetSystem}
 use Rattle.definition_instructions.specs.MicroOps.{MonitorOp, plain, setKey, setPR, setIM, setIR, setEnabled, setWord, Operation, unprivileged, privileged, unassigned, monitorStep, monitorSteps, executeOperation}
@@ -71,8 +71,8 @@ control-widths c e =
       p7 .1,
     )
 
-pub accepted-valid : (m : Computer) → judgeMachine (m .cells) (m .control) ≡ Accepted → Valid m
-unfolding judgeMachine sizeFits
+pub accepted-valid : (m : Computer) → judgeRegisters (m .cells) (m .control) ≡ Accepted → Valid m
+unfolding judgeRegisters sizeFits
 accepted-valid m e =
     let p1 = passed (sizeFits (length (m .cells))) _ _ e in
     let p2 = passed (cellsFit (m .cells)) _ _ (p1 .1) in
@@ -87,8 +87,8 @@ accepted-valid m e =
       state = c .1;
     }
 
-pub valid-accepted : (m : Computer) → Valid m → judgeMachine (m .cells) (m .control) ≡ Accepted
-unfolding judgeMachine sizeFits controlFits
+pub valid-accepted : (m : Computer) → Valid m → judgeRegisters (m .cells) (m .control) ≡ Accepted
+unfolding judgeRegisters sizeFits controlFits
 valid-accepted m h =
     rw (
       le-ltb (length (m .cells)) 8 (h .least),
@@ -175,12 +175,12 @@ unfolding monitorSteps
 live-steps w [] n l h = h
 live-steps w (d ∷ ds) n l h = reach-bind Live (monitorStep w d n) (monitorSteps w ds) (live-step w d n l h) (λ k p. live-steps w ds k l p)
 
-pub in-reset : (c : Control) → resetRecord c .reset ≡ true
-unfolding resetRecord
+pub in-reset : (c : Control) → resetControl c .reset ≡ true
+unfolding resetControl
 in-reset c = refl
 
 pub valid-reset : (n : Computer) → Valid n → Valid (resetSystem (n .cells) (n .control))
-unfolding resetSystem resetRecord stateFits
+unfolding resetSystem resetControl stateFits
 valid-reset n h = valid-control (computer (putWord (n .cells) 5 (n .control .ic)) (n .control)) _ (omega (arith, h .widths)) refl (valid-put 5 (n .control .ic) n h)
 
 pub valid-operation : (w : ℕ) (o : Operation) (n : Computer) → w < 4 → Live n → Valid (reached (executeOperation w o n))

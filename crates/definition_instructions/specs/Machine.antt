@@ -5,7 +5,7 @@ use mathlib.Core.List.{List}
 use Rattle.machine.specs.declared.Control.{Control}
 use Rattle.machine.specs.declared.Fault.{Fault}
 use Rattle.machine.specs.Store.{putWord}
-use Rattle.machine.specs.Records.{returnAddress, resetRecord}
+use Rattle.machine.specs.Records.{returnAddress, resetControl}
 
 -- all that an instruction without devices reads and changes
 pub record Computer : Type 0 where
@@ -61,4 +61,4 @@ lifted h (fault f k) = fault f (connected h k)
 
 -- 14.4, Reset System: word(10) := IC; then the reset state
 unfoldable pub resetSystem : List ℕ → Control → Computer
-resetSystem s c = computer (putWord s (returnAddress / 2) (c .ic)) (resetRecord c)
+resetSystem s c = computer (putWord s (returnAddress / 2) (c .ic)) (resetControl c)

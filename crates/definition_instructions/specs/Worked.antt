@@ -7,7 +7,7 @@ use mathlib.Core.List.{List, [], _∷_}
 use Rattle.machine.specs.declared.Control.{Control}
 use Rattle.machine.specs.declared.Fault.the-variants.{Unassigned, Absent, Privileged, Store, Jump}
 use Rattle.definition_instructions.specs.Machine.{computer, Channel, machine, ok, fault, resetSystem}
-use Rattle.machine.specs.Records.{resetRecord}
+use Rattle.machine.specs.Records.{resetControl}
 use Rattle.machine.specs.Fields.{inTask, withIC, withIR, withIM, withPending, withPR, withEX, withEnabled, raised, flagsCleared, overflowed, carrySet}
 use Rattle.machine.specs.Store.{word, pair, key, putWord, putKey, byte, withByte, putByte, putLink, absent, forbids, forbidden, violation, firstWord}
 use Rattle.registers.specs.Reg.{iter, until, signedByte}
@@ -25,7 +25,7 @@ use Rattle.definition_instructions.specs.MicroOps.{skipped, microStep, m
 
 -- `unfolding opened` unfolds the instructions used here
 unfoldable opened : ℕ
-unfolding inTask withIC withIR withIM withPending withPR withEX withEnabled raised flagsCleared overflowed carrySet word pair key putWord putKey byte withByte putByte putLink absent forbids forbidden violation firstWord iter until each logicalAnd logicalOr logicalXor cleared isHigh isLow isEqual isNotEqual bitsOne bitsZero sum difference sumWithCarry differenceWithCarry sum24 wmStep wmLast wm wdStep wdLoop abs24 wdSign wdCorrection wdEnd wd cfEnd cfByPlaces cf fetchFloating execute resetSystem meaning skipped microStep microSteps monitorStep monitorSteps executeOperation signedByte resetRecord disconnected deviceBuffer readFrom writeTo fourLeft shiftedIn assembled executeDevice commanded rejection autoloading deviceMeaning deviceStep deviceSteps executeDeviceOperation
+unfolding inTask withIC withIR withIM withPending withPR withEX withEnabled raised flagsCleared overflowed carrySet word pair key putWord putKey byte withByte putByte putLink absent forbids forbidden violation firstWord iter until each logicalAnd logicalOr logicalXor cleared isHigh isLow isEqual isNotEqual bitsOne bitsZero sum difference sumWithCarry differenceWithCarry sum24 wmStep wmLast wm wdStep wdLoop abs24 wdSign wdCorrection wdEnd wd cfEnd cfByPlaces cf fetchFloating execute resetSystem meaning skipped microStep microSteps monitorStep monitorSteps executeOperation signedByte resetControl disconnected deviceBuffer readFrom writeTo fourLeft shiftedIn assembled executeDevice commanded rejection autoloading deviceMeaning deviceStep deviceSteps executeDeviceOperation
 opened = 0
 
 -- task mode, EX given, key 7 forbidden

@@ -20,7 +20,7 @@ use Rattle.definition_instructions.specs.Codes.{Mnemonic, internal, device, cod
 use Rattle.definition_instructions.proofs.MicroLaws.{reach-cond}
 use Rattle.definition_instructions.proofs.DeviceLaws.{reached-lifted}
 use Rattle.definition_runs.specs.GenericRun.{CycleResult}
-use Rattle.definition_runs.specs.Cycle.{lineOf, lineCleared, enter, fetched, indirectAbsent, effectiveAddress, executeInstruction, fetchRecord, decode, fetch, concluded, cycle}
+use Rattle.definition_runs.specs.Cycle.{lineOf, lineCleared, enter, fetched, indirectAbsent, effectiveAddress, executeInstruction, fetchControl, decode, fetch, concluded, cycle}
 use Rattle.definition_runs.proofs.RunLaws.{Meets}
 
 pub register-field : (v : ℕ) → instructionFields v .w < 4
@@ -48,7 +48,7 @@ stepped m = machine (m .cells) (withIC (m .control) (sum24 (m .control .ic) 2)) 
 
 -- the machine as its operation begins
 abbrev pub begun : Machine → Machine
-begun m = machine (m .cells) (fetchRecord (m .control) (forbidden (m .cells) (m .control) (m .control .ic / 2))) (m .channel)
+begun m = machine (m .cells) (fetchControl (m .control) (forbidden (m .cells) (m .control) (m .control .ic / 2))) (m .channel)
 
 module _ (P : Machine → Type 0) (m : Machine) (as-it-was : P m) (forbidden-fetch : P (stepped m)) where
   abbrev Operates : Type 0

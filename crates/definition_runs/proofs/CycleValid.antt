@@ -15,9 +15,8 @@ use Rattle.definition_instructions.specs.Meaning.{autoloading}
 use Rattle.definition_instructions.specs.Codes.{execute, executeDevice, executeCode}
 use Rattle.definition_instructions.proofs.Validity.{Valid, Live, valid-put, valid-control, live-control, valid-reset, valid-operation}
 use Rattle.definition_instructions.proofs.DeviceLaws.{ValidChannel, valid-read, valid-write, ValidComputer, LiveComputer, live-devices, valid-device, channel-steps, channel-device}
-use Rattle.definition_runs.specs.Cycle.{lineCleared, entryRecord, enter, fetchRecord, fetch, cycle}
-use Rattle.definition_runs.specs.Run.{inReset}
-use Rattle.definition_runs.specs.Keys.{resetKey, startRecord, startKey, autoloadRecord, autoloadKey}
+use Rattle.definition_runs.specs.Cycle.{lineCleared, entryControl, enter, fetchControl, fetch, cycle}
+use Rattle.definition_runs.specs.Keys.{resetKey, startControl, startKey, autoloadControl, autoloadKey}
 use Rattle.definition_runs.proofs.RunLaws.{Meets}
 use Rattle.definition_runs.proofs.CycleLaws.{code-meets, stepped, begun, fetch-meets, lined, cycle-meets}
 
@@ -29,8 +28,8 @@ in-monitor c p q = by (c .reset) (c .monitor) (c .enabled) p q
     by true m e p q = rw (p, q)
     by false m e p q = refl
 
-valid-entry : (n : Computer) (a : ℕ) → a < 16777216 → Valid n → Valid (computer (n .cells) (entryRecord (n .control) a))
-unfolding entryRecord
+valid-entry : (n : Computer) (a : ℕ) → a < 16777216 → Valid n → Valid (computer (n .cells) (entryControl (n .control) a))
+unfolding entryControl
 valid-entry n a l h = valid-control n _ (omega (arith, h .widths)) (in-monitor _ refl refl) h
 
 enter-valid : (v : ℕ) (n : Computer) → Valid n → Valid (enter v (n .cells) (n .control))
@@ -38,7 +37,7 @@ unfolding enter
 enter-valid v n h = valid-entry (computer _ (n .control)) _ (word-lt _ _) (valid-put _ _ (computer _ (n .control)) (valid-put _ v n h))
 
 live-begun : (n : Machine) → LiveComputer n → LiveComputer (begun n)
-unfolding fetchRecord sum24
+unfolding fetchControl sum24
 live-begun n h = live-control (computerOf n) _ (omega (arith, h .valid .widths)) refl h
 
 valid-stepped : (n : Machine) → LiveComputer n → ValidComputer (stepped n)
@@ -50,7 +49,7 @@ valid-code : (f w sb : ℕ) (n : Machine) → w < 4 → LiveComputer n → Valid
 unfolding execute executeDevice
 valid-code f w sb n l h = code-meets ValidComputer f w sb n (λ o. valid-operation w _ (computerOf n) l h) (λ p. valid-device w _ n l h)
 
-pub valid-fetch : (n : Machine) → inReset n ≡ false → ValidComputer n → ValidComputer (reached (fetch (n .cells) (n .control) (n .channel)))
+pub valid-fetch : (n : Machine) → n .control .reset ≡ false → ValidComputer n → ValidComputer (reached (fetch (n .cells) (n .control) (n .channel)))
 valid-fetch n e h =
     let live : LiveComputer n = record { valid = h; outside = e } in
     fetch-meets ValidComputer n h (valid-stepped n live) (λ v. (live-begun n live .valid, λ w sb l. valid-code _ w sb (begun n) l (live-begun n live)))
@@ -59,7 +58,7 @@ pub valid-lined : (m : Machine) → ValidComputer m → ValidComputer (lined m)
 unfolding lineCleared withIR stateFits
 valid-lined m h = valid-control (computerOf m) _ (omega (arith, h .widths)) (h .state) h
 
-pub cycle-valid : (m : Machine) → inReset m ≡ false → ValidComputer m → Meets ValidComputer (λ k. ValidComputer) (cycle m)
+pub cycle-valid : (m : Machine) → m .control .reset ≡ false → ValidComputer m → Meets ValidComputer (λ k. ValidComputer) (cycle m)
 cycle-valid m e h =
     cycle-meets ValidComputer (λ k. ValidComputer) m (valid-fetch m e h) (λ f k q. enter-valid 0 (computerOf k)) (λ l. enter-valid _ (computerOf (lined m)) (valid-lined m h))
 
@@ -79,7 +78,7 @@ module _ (P : Channel → Type 0) (reads : (n : ℕ) (h : Channel) → P h → P
   channel-fetch m h =
       fetch-meets OfChannel m h h (λ e. (h, λ w sb l. code-meets OfChannel _ w sb (begun m) (λ o. h) (λ p. channel-device P reads writes w _ (begun m) h)))
 
-  pub cycle-channel : (m : Machine) → inReset m ≡ false → OfChannel m → Meets OfChannel (λ k. OfChannel) (cycle m)
+  pub cycle-channel : (m : Machine) → m .control .reset ≡ false → OfChannel m → Meets OfChannel (λ k. OfChannel) (cycle m)
   cycle-channel m e h = cycle-meets OfChannel (λ k. OfChannel) m (channel-fetch m h) (λ f k q g. g) (λ l. h)
 
 -- ---- the panel keys
@@ -93,12 +92,12 @@ unfolding resetKey
 valid-resetKey m h = either Valid (m .control .reset) _ _ (λ e. h) (λ e. valid-reset m h)
 
 pub valid-startKey : (m : Computer) → Valid m → Valid (startKey (m .cells) (m .control))
-unfolding startKey startRecord stateFits
+unfolding startKey startControl stateFits
 valid-startKey m h =
     either Valid (m .control .reset) _ _ (λ e. valid-control m _ (omega (arith, h .widths, word-lt (m .cells) 7)) refl h) (λ e. h)
 
-live-autoload : (m : Machine) → ValidComputer m → Live (computer (m .cells) (autoloadRecord (m .control)))
-unfolding autoloadRecord stateFits
+live-autoload : (m : Machine) → ValidComputer m → Live (computer (m .cells) (autoloadControl (m .control)))
+unfolding autoloadControl stateFits
 live-autoload m h = record { valid = valid-control (computerOf m) _ (omega (arith, h .widths)) refl h; outside = refl }
 
 pub valid-autoloadKey : (m : Machine) → ValidComputer m → ValidComputer (autoloadKey m)
@@ -106,7 +105,7 @@ unfolding autoloadKey
 valid-autoloadKey m h =
     either ValidComputer (m .control .reset) _ _
     (λ e. either ValidComputer (fourLeft (m .channel .characters)) _ _
-    (λ f. live-devices 0 (autoloading 0 (m .channel .characters)) (machine (m .cells) (autoloadRecord (m .control)) (m .channel)) (omega arith) (live-autoload m h) .valid)
+    (λ f. live-devices 0 (autoloading 0 (m .channel .characters)) (machine (m .cells) (autoloadControl (m .control)) (m .channel)) (omega arith) (live-autoload m h) .valid)
     (λ f. h))
     (λ e. h)
 
@@ -116,6 +115,6 @@ channel-autoloadKey m h =
     let P : Machine → Type 0 = λ n. ValidChannel (n .channel) in
     either P (m .control .reset) _ _
     (λ e. either P (fourLeft (m .channel .characters)) _ _
-    (λ f. channel-steps ValidChannel valid-read valid-write 0 (autoloading 0 (m .channel .characters)) (machine (m .cells) (autoloadRecord (m .control)) (m .channel)) h)
+    (λ f. channel-steps ValidChannel valid-read valid-write 0 (autoloading 0 (m .channel .characters)) (machine (m .cells) (autoloadControl (m .control)) (m .channel)) h)
     (λ f. h))
     (λ e. h)

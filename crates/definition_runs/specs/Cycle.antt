@@ -50,13 +50,13 @@ unfoldable pub lineCleared : Control → ℕ → Control
 lineCleared c p = withIR c (c .ir - bitAlone (c .ir) p)
 
 -- IC := a; IC(23) := 0; monitor mode := interrupt disabled := true; nothing pending
-unfoldable pub entryRecord : Control → ℕ → Control
-entryRecord c a = record { ic = evenAddress a; ir = c .ir; im = c .im; pending = 0; pr = c .pr; ex = c .ex; monitor = true; enabled = false; reset = c .reset }
+unfoldable pub entryControl : Control → ℕ → Control
+entryControl c a = record { ic = evenAddress a; ir = c .ir; im = c .im; pending = 0; pr = c .pr; ex = c .ex; monitor = true; enabled = false; reset = c .reset }
 
 -- word(8) := number; word(10) := IC; IC := word(12): protection does not hinder the two writes
 unfoldable pub enter : ℕ → List ℕ → Control → Computer
 enter n s c =
-    let t = putWord (putWord s (interruptNumber / 2) n) (returnAddress / 2) (c .ic) in computer t (entryRecord c (word t (interruptionProgram / 2)))
+    let t = putWord (putWord s (interruptNumber / 2) n) (returnAddress / 2) (c .ic) in computer t (entryControl c (word t (interruptionProgram / 2)))
 
 -- ---- Fetch Instruction
 
@@ -92,15 +92,15 @@ executeInstruction s c h i a =
     cond (indirectAbsent s (i .m) a) (fault (Absent a) (machine s c h)) (executeCode (i .code) (i .w) (effectiveAddress s (i .m) a) (machine s c h))
 
 -- IC := IC + 2; monitor mode := PR(PK) = 1; the pending modification is used up
-unfoldable pub fetchRecord : Control → Bool → Control
-fetchRecord c p = record { ic = sum24 (c .ic) 2; ir = c .ir; im = c .im; pending = 0; pr = c .pr; ex = c .ex; monitor = p; enabled = c .enabled; reset = c .reset }
+unfoldable pub fetchControl : Control → Bool → Control
+fetchControl c p = record { ic = sum24 (c .ic) 2; ir = c .ir; im = c .im; pending = 0; pr = c .pr; ex = c .ex; monitor = p; enabled = c .enabled; reset = c .reset }
 
 -- IC := IC + 2; if not monitor mode and PR(PK) = 1 then goto Instruction Exception; ..
 unfoldable pub decode : List ℕ → Control → Channel → Effect Machine
 decode s c h =
     let i = instructionFields (fetched s (c .ic)) in
     cond (violation s c (c .ic / 2)) (fault (Jump (c .ic)) (machine s (withIC c (sum24 (c .ic) 2)) h))
-    (executeInstruction s (fetchRecord c (forbidden s c (c .ic / 2))) h i (address s c i))
+    (executeInstruction s (fetchControl c (forbidden s c (c .ic / 2))) h i (address s c i))
 
 -- if IC > word limit then goto Instruction Exception; and so where IC + 1 does not exist (docs/DECISIONS.md B2)
 -- The print goes on `if reset key then goto Reset System`: a panel key is no part of a cycle but a call of its own (Keys.antt, `pressingReset`).

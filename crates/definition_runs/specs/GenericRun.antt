@@ -20,6 +20,11 @@ pub data CycleResult (M : Type 0) : Type 0 where
   instruction : M → CycleResult M
   entry : Kind → M → CycleResult M
 
+-- a cycle of the machine M as one of the machine N
+abbrev pub cycleMapped : {M N : Type 0} → (M → N) → CycleResult M → CycleResult N
+cycleMapped f (instruction m) = instruction (f m)
+cycleMapped f (entry k m) = entry k (f m)
+
 -- what a run hands back
 pub record RunResult (M : Type 0) : Type 0 where
   pub machine : M
@@ -76,11 +81,11 @@ abbrev pub total : ℕ → List ℕ → ℕ
 total b [] = b
 total b (c ∷ cs) = b + total c cs
 
--- the refusals 1 to 5 and 13
+-- the refusals 1 to 5, 13 and 18
 abbrev pub judged : {M : Type 0} → (M → Verdict) → (M → Bool) → ℕ → ℕ → M → Verdict
 judged judge fits l b m = judgeDevices (judgeCall (judge m) l b) (fits m)
 
--- `judge` has the refusals 1 to 3, `fits` is true where 13 does not apply, `join l m` has the lines in the interrupt register
+-- `judge` has the refusals 1 to 3 and 18, `fits` is true where 13 does not apply, `join l m` has the lines in the interrupt register
 module _ {M : Type 0} (inReset : M → Bool) (cycle : M → CycleResult M) (judge : M → Verdict) (fits : M → Bool) (join : ℕ → M → M) where
   -- the refusals; then the lines join and the cycles are made
   unfoldable pub call : ℕ → ℕ → M → RunResult M

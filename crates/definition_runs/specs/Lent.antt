@@ -4,20 +4,21 @@
 use Prim.Native.Nat.{ℕ, _-_}
 use mathlib.Core.List.{List, [], _++_}
 use lib.ListN.{length}
-use Rattle.machine.specs.declared.Control.{Control}
+use Rattle.machine.specs.declared.Record.{Record}
 use Rattle.machine.specs.declared.Devices.{Devices}
 use Rattle.machine.specs.declared.Run.{Run}
 use Rattle.machine.specs.declared.State.{State}
 use Rattle.machine.specs.declared.Autoloaded.{Autoloaded}
-use Rattle.definition_instructions.specs.Machine.{Computer, computer, Channel, Machine, machine}
+use Rattle.definition_instructions.specs.Machine.{Channel}
 use Rattle.definition_instructions.specs.Channel.{lent, registersOf}
 use Rattle.definition_runs.specs.GenericRun.{RunResult}
+use Rattle.definition_runs.specs.Timed.{TimedComputer, timedComputer, TimedMachine, timedMachine}
 use Rattle.definition_runs.specs.Run.{runMachine}
 use Rattle.definition_runs.specs.Keys.{Pressed, pressingAutoload}
 
 -- the machine at the beginning of a call: nothing is typed yet, and all of the typing buffer t is space
-abbrev pub machineLent : List ℕ → Control → Devices → List ℕ → List ℕ → Machine
-machineLent s c d cs t = machine s c (lent (d .reader) (d .typewriter) cs t)
+abbrev pub machineLent : List ℕ → Record → Devices → List ℕ → List ℕ → TimedMachine
+machineLent s r d cs t = timedMachine s r (lent (d .reader) (d .typewriter) cs t)
 
 -- the characters taken of those lent
 abbrev pub takenOf : List ℕ → Channel → ℕ
@@ -39,7 +40,7 @@ abbrev pub returned : Run → List ℕ → List ℕ → Returned
 returned r s t = record { run = r; cells = s; typing = t }
 
 -- what is handed back of the run x, the characters cs having been lent
-unfoldable pub handedBack : List ℕ → RunResult Machine → Returned
+unfoldable pub handedBack : List ℕ → RunResult TimedMachine → Returned
 handedBack cs x =
     let h = x .machine .channel in
     returned
@@ -56,18 +57,18 @@ handedBack cs x =
     (bufferOf h)
 
 -- a run with the raised lines l and the budget b
-unfoldable pub runLent : ℕ → ℕ → List ℕ → Control → Devices → List ℕ → List ℕ → Returned
+unfoldable pub runLent : ℕ → ℕ → List ℕ → Record → Devices → List ℕ → List ℕ → Returned
 runLent l b s c d cs t = handedBack cs (runMachine l b (machineLent s c d cs t))
 
 -- the answer and the counts of a run that hands back r and the store s
-abbrev pub runResultOf : Run → List ℕ → RunResult Computer
-runResultOf r s = record { machine = computer s (r .control); answer = r .answer; executed = r .executed; entries = r .entries }
+abbrev pub runResultOf : Run → List ℕ → RunResult TimedComputer
+runResultOf r s = record { machine = timedComputer s (r .control); answer = r .answer; executed = r .executed; entries = r .entries }
 
 -- ---- the panel keys
 
 -- what the reset key or the start key hands back, with the store
-abbrev pub pressedOf : State → List ℕ → Pressed Computer
-pressedOf r s = record { machine = computer s (r .control); verdict = r .verdict }
+abbrev pub pressedOf : State → List ℕ → Pressed TimedComputer
+pressedOf r s = record { machine = timedComputer s (r .control); verdict = r .verdict }
 
 -- what the autoload key hands back, with the store
 pub record KeyReturned : Type 0 where
@@ -78,11 +79,11 @@ abbrev pub keyReturned : Autoloaded → List ℕ → KeyReturned
 keyReturned r s = record { key = r; cells = s }
 
 -- what is handed back of the key x, the characters cs having been lent
-unfoldable pub keyHandedBack : List ℕ → Pressed Machine → KeyReturned
+unfoldable pub keyHandedBack : List ℕ → Pressed TimedMachine → KeyReturned
 keyHandedBack cs x =
     let h = x .machine .channel in
     keyReturned (record { control = x .machine .control; verdict = x .verdict; devices = registersOf h; taken = takenOf cs h }) (x .machine .cells)
 
 -- no typing buffer is lent
-unfoldable pub autoloadLent : List ℕ → Control → Devices → List ℕ → KeyReturned
+unfoldable pub autoloadLent : List ℕ → Record → Devices → List ℕ → KeyReturned
 autoloadLent s c d cs = keyHandedBack cs (pressingAutoload (machineLent s c d cs []))

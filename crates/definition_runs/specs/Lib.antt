@@ -1,8 +1,10 @@
 pub mod GenericRun
 pub mod Cycle
+pub mod Timed
 pub mod Run
 pub mod Keys
 pub mod Lent
 pub mod Opened
 pub mod Table
 pub mod Peripherals
+pub mod Timers

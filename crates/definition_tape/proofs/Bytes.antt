@@ -10,11 +10,13 @@ use lib.ListN.{length, getD, length-append}
 use lib.Seq.{take-append-seam, drop-append-seam, drop-drop, getD-append-add}
 use lib.Dec.{eqb, ltb}
 use Rattle.machine.specs.declared.Control.{Control}
+use Rattle.machine.specs.declared.Timer.{Timer}
+use Rattle.machine.specs.declared.Record.{Record}
 use Rattle.acceptance.specs.Accept.{cellsFit, stateFits, controlFits}
-use Rattle.definition_tape.specs.Layout.{numberAt, lengthOf, kindOf, payloadOf, restOf, firstCell, cellCount, cellsFrom, blockCells, controlOf}
+use Rattle.definition_tape.specs.Layout.{numberAt, lengthOf, kindOf, payloadOf, restOf, firstCell, cellCount, cellsFrom, blockCells, controlOf, timerOf, controlRecordOf}
 use Rattle.acceptance.proofs.Tests.{both, neither}
 use Rattle.definition_tape.specs.Blocks.{Block}
-use Rattle.definition_tape.specs.Bytes.{bytes4, headerBytes, recordBytes, cellsBytes, blockBytes, flag, controlBytes}
+use Rattle.definition_tape.specs.Bytes.{bytes4, headerBytes, recordBytes, cellsBytes, blockBytes, flag, controlBytes, TimerWidths}
 
 -- ---- numbers
 
@@ -148,13 +150,13 @@ flags-small false true false = omega arith
 flags-small false false true = omega arith
 flags-small false false false = omega arith
 
-pub length-control : (c : Control) → length (controlBytes c) ≡ 20
+pub length-control : (r : Record) → length (controlBytes r) ≡ 33
 unfolding controlBytes
-length-control c = refl
+length-control r = refl
 
-pub control-back : (c : Control) → controlFits c ≡ true → controlOf (controlBytes c) ≡ c
+registers-back : (c : Control) (t : Timer) → controlFits c ≡ true → controlOf (controlBytes (record { registers = c; timer = t })) ≡ c
 unfolding controlOf controlBytes
-control-back c e =
+registers-back c t e =
     let w = widths c e in
     let f = flags-back (c .monitor) (c .enabled) (c .reset) in
     let p : c .pr % 256 ≡ c .pr = mod-eq-of-lt (w .pr) in
@@ -170,3 +172,13 @@ control-back c e =
       f .1,
       f .2,
     )
+
+timer-back : (c : Control) (t : Timer) → TimerWidths t → timerOf (controlBytes (record { registers = c; timer = t })) ≡ t
+unfolding timerOf controlBytes
+timer-back c t w =
+    let l : t .line % 256 ≡ t .line = mod-eq-of-lt (w .line) in
+    rw (four-bytes (t .elapsed) (w .elapsed), four-bytes (t .period) (w .period), four-bytes (t .phase) (w .phase), l)
+
+pub control-back : (r : Record) → controlFits (r .registers) ≡ true → TimerWidths (r .timer) → controlRecordOf (controlBytes r) ≡ r
+unfolding controlRecordOf
+control-back r e w = rw (registers-back (r .registers) (r .timer) e, timer-back (r .registers) (r .timer) w)

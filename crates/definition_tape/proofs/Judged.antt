@@ -8,12 +8,12 @@ use mathlib.Core.Logic.{_⊎_, inl, inr, ⊎-elim}
 use borrow.Author.Tests.{le-leb, eq-eqb, ne-eqb, ltb-true, ltb-false, leb-true, eqb-true, eqb-false}
 use lib.ListN.{length}
 use lib.Dec.{ltb, leb, eqb}
-use Rattle.machine.specs.declared.Refusal.the-variants.{StoreSize, TapeEnds, RecordOrder}
+use Rattle.machine.specs.declared.Refusal.the-variants.{StoreSize, ControlField, TimerField, TapeEnds, RecordOrder}
 use Rattle.machine.specs.declared.Verdict.{Verdict}
 use Rattle.machine.specs.declared.Verdict.the-variants.{Accepted, Rejected}
-use Rattle.acceptance.specs.Accept.{sizeFits, cellsFit, judgeStore}
+use Rattle.acceptance.specs.Accept.{sizeFits, cellsFit, timerFits, judgeStore, judgeTimer}
 use Rattle.acceptance.proofs.Tests.{refused, passed, both}
-use Rattle.definition_tape.specs.Layout.{lengthOf, kindOf, payloadOf, restOf, recordsOf, firstCell, cellCount, blockCells}
+use Rattle.definition_tape.specs.Layout.{lengthOf, kindOf, payloadOf, restOf, recordsOf, firstCell, cellCount, blockCells, timerOf}
 use Rattle.definition_tape.specs.Judge.{kindKnown, inOrder, lengthFits, judgeBlock, controlGood, judgeControl, judgePayload, judgeRecord, unnamedCells, judgeAfter, judgeRecords, judgeTape}
 use Rattle.definition_tape.specs.Load.{judgeThen, judgeLoad}
 use Rattle.definition_tape.specs.Remark.{judgeReading}
@@ -47,9 +47,16 @@ pub block-length : (l : ℕ) → lengthFits 1 l ≡ true → (l % 4 ≡ 0) × (8
 unfolding lengthFits
 block-length l e = let h = both _ _ e in (eqb-true (l % 4) 0 (h .0), leb-true 8 l (h .1))
 
-pub control-length : (l : ℕ) → lengthFits 2 l ≡ true → l ≡ 20
+pub control-length : (l : ℕ) → lengthFits 2 l ≡ true → (l ≡ 20) ⊎ (l ≡ 33)
 unfolding lengthFits
-control-length l e = eqb-true l 20 e
+control-length l e = at (eqb l 20) refl e
+  where
+    at : (b : Bool) → eqb l 20 ≡ b → cond b true (eqb l 33) ≡ true → (l ≡ 20) ⊎ (l ≡ 33)
+    at true f e = inl (eqb-true l 20 f)
+    at false f e = inr (eqb-true l 33 e)
+
+pub control-least : (l : ℕ) → lengthFits 2 l ≡ true → 20 ≤ l
+control-least l e = ⊎-elim (λ z. omega arith) (λ z. omega arith) (control-length l e)
 
 pub end-length : (l : ℕ) → lengthFits 3 l ≡ true → l ≡ 0
 unfolding lengthFits
@@ -67,9 +74,21 @@ block-payload n u p e =
     let c = passed _ _ _ (b .1) in
     (leb-true (firstCell p + cellCount p) n (a .0), b .0, c .0)
 
-pub control-payload : (n : ℕ) (u : Bool) (p : List ℕ) → judgePayload n u 2 p ≡ Accepted → controlGood p ≡ true
-unfolding judgePayload judgeControl
-control-payload n u p e = passed _ _ _ e .0
+-- 18 behind 3
+pub control-judged : (p : List ℕ) → judgeControl p ≡ cond (controlGood p) (cond (timerFits (timerOf p)) Accepted (Rejected TimerField)) (Rejected ControlField)
+unfolding judgeControl
+control-judged p = at (controlGood p)
+  where
+    at : (b : Bool) → judgeTimer (cond b Accepted (Rejected ControlField)) (timerOf p) ≡ cond b (cond (timerFits (timerOf p)) Accepted (Rejected TimerField)) (Rejected ControlField)
+    at true = refl
+    at false = refl
+
+pub control-payload : (n : ℕ) (u : Bool) (p : List ℕ) → judgePayload n u 2 p ≡ Accepted → (controlGood p ≡ true) × (timerFits (timerOf p) ≡ true)
+unfolding judgePayload
+control-payload n u p e =
+    let a = passed _ _ _ (sym (control-judged p) ∙ e) in
+    let b = passed _ _ _ (a .1) in
+    (a .0, b .0)
 
 -- ---- an accepted tape, from a record on
 

@@ -5,12 +5,12 @@ use mathlib.Core.Option.{Option}
 use mathlib.Core.List.{List, []}
 use native.Mathlib.Omega.{arith}
 use lib.ListN.{length, length-append}
-use Rattle.machine.specs.declared.Control.{Control}
+use Rattle.machine.specs.declared.Record.{Record}
 use Rattle.definition_tape.specs.Blocks.{storeBlocks}
 use Rattle.definition_tape.specs.Bytes.{blocksBytes, controlBytes, remarkRecord, tapeOf}
 use Rattle.definition_tape.proofs.Bytes.{length-record, length-control}
 
-pub length-tape : (s : List ℕ) (c : Control) (m : Option (List ℕ)) → length (tapeOf s c m) ≡ length (remarkRecord m) + length (blocksBytes (storeBlocks s)) + 32
+pub length-tape : (s : List ℕ) (c : Record) (m : Option (List ℕ)) → length (tapeOf s c m) ≡ length (remarkRecord m) + length (blocksBytes (storeBlocks s)) + 45
 unfolding tapeOf
 length-tape s c m =
     let k = length-record 2 (controlBytes c) in

@@ -1,11 +1,13 @@
--- The bytes of a machine's tape: what Layout.antt reads, written.
+-- The bytes of a machine's tape (document 02, E2 and E6): what Layout.antt reads, written.
 -- Assumes nothing.
-use Prim.Native.Nat.{ℕ, _+_, _/_, _%_}
+use Prim.Native.Nat.{ℕ, _+_, _/_, _%_, _<_}
 use mathlib.Core.Bool.{Bool, true, false}
 use mathlib.Core.Option.{Option, none, some}
 use mathlib.Core.List.{List, [], _∷_, _++_}
 use lib.ListN.{length}
 use Rattle.machine.specs.declared.Control.{Control}
+use Rattle.machine.specs.declared.Timer.{Timer}
+use Rattle.machine.specs.declared.Record.{Record}
 use Rattle.definition_tape.specs.Blocks.{Block, storeBlocks}
 
 -- ---- numbers, little-endian: `numberAt` reads back the four bytes of a number below 4,294,967,296
@@ -34,7 +36,8 @@ unfoldable pub blocksBytes : List Block → List ℕ
 blocksBytes [] = []
 blocksBytes (b ∷ bs) = recordBytes 1 (blockBytes b) ++ blocksBytes bs
 
--- ---- kind 2, control: IC, IR, IM, pending (4 each), PR, EX, flags (1 each: 1 monitor, 2 enabled, 4 reset, summed), a zero byte
+-- ---- kind 2, control: IC, IR, IM, pending (4 each), PR, EX, flags (1 each: 1 monitor, 2 enabled, 4 reset, summed), a zero byte, then elapsed,
+-- period, phase (4 each) and line (1): 33 bytes
 abbrev pub flag : Bool → ℕ → ℕ
 flag true v = v
 flag false v = 0
@@ -46,8 +49,21 @@ flagsByte c = flag (c .monitor) 1 + flag (c .enabled) 2 + flag (c .reset) 4
 abbrev pub stateBytes : Control → List ℕ
 stateBytes c = c .pr % 256 ∷ c .ex % 256 ∷ flagsByte c ∷ 0 ∷ []
 
-unfoldable pub controlBytes : Control → List ℕ
-controlBytes c = bytes4 (c .ic) ++ (bytes4 (c .ir) ++ (bytes4 (c .im) ++ (bytes4 (c .pending) ++ stateBytes c)))
+-- elapsed, period, phase, line
+abbrev pub timerBytes : Timer → List ℕ
+timerBytes t = bytes4 (t .elapsed) ++ (bytes4 (t .period) ++ (bytes4 (t .phase) ++ (t .line % 256 ∷ [])))
+
+unfoldable pub controlBytes : Record → List ℕ
+controlBytes r =
+    let c = r .registers in
+    bytes4 (c .ic) ++ (bytes4 (c .ir) ++ (bytes4 (c .im) ++ (bytes4 (c .pending) ++ (stateBytes c ++ timerBytes (r .timer)))))
+
+-- a timer whose fields fit these bytes, as those of every `machine::Timer` do (u32 and u8)
+pub record TimerWidths (t : Timer) : Type 0 where
+  pub elapsed : t .elapsed < 4294967296
+  pub period : t .period < 4294967296
+  pub phase : t .phase < 4294967296
+  pub line : t .line < 256
 
 -- ---- kind 4, remark: its text, which may be empty; no record for none
 unfoldable pub remarkRecord : Option (List ℕ) → List ℕ
@@ -55,5 +71,5 @@ remarkRecord none = []
 remarkRecord (some r) = recordBytes 4 r
 
 -- ---- the tape of the machine with the cells s and the control record c: remark, blocks, control, end (kind 3)
-unfoldable pub tapeOf : List ℕ → Control → Option (List ℕ) → List ℕ
+unfoldable pub tapeOf : List ℕ → Record → Option (List ℕ) → List ℕ
 tapeOf s c m = remarkRecord m ++ (blocksBytes (storeBlocks s) ++ (recordBytes 2 (controlBytes c) ++ recordBytes 3 []))

@@ -1,20 +1,22 @@
--- Tapes by computation: document 01's of 32 bytes, and others.
+-- Tapes by computation: document 01's of 32 bytes, and others; the control record of 33 bytes (document 02, E6).
 -- Assumes nothing.
-use Prim.Native.Nat.{ℕ}
+use Prim.Native.Nat.{ℕ, _+_}
 use mathlib.Core.Bool.{Bool, true, false}
 use mathlib.Core.Path.{_≡_, refl}
 use mathlib.Core.Option.{none, some}
 use mathlib.Core.List.{List, [], _∷_, _++_}
 use mathlib.Core.Logic.{_⊎_, inl, inr}
 use native.Mathlib.Omega.{arith}
-use lib.ListN.{take, drop, replicate}
+use lib.ListN.{length, take, drop, replicate}
 use Rattle.machine.specs.Answers.{verdictNumber}
-use Rattle.machine.specs.Records.{freshRecord}
-use Rattle.machine.specs.declared.Control.{Control}
-use Rattle.machine.specs.declared.Refusal.the-variants.{CellValue, TapeEnds, RecordKind, RecordOrder, WrittenLength, BufferLength}
+use Rattle.machine.specs.Records.{freshControl, timerOff, freshRecord}
+use Rattle.machine.specs.declared.Timer.{Timer}
+use Rattle.machine.specs.declared.Record.{Record}
+use Rattle.machine.specs.declared.Refusal.the-variants.{CellValue, ControlField, TimerField, TapeEnds, RecordKind, RecordOrder, WrittenLength, BufferLength, RemarkLength}
+use Rattle.machine.specs.declared.Verdict.{Verdict}
 use Rattle.machine.specs.declared.Verdict.the-variants.{Accepted, Rejected}
-use Rattle.acceptance.specs.Accept.{sizeFits, cellsFit, stateFits, controlFits, judgeStore, judgeMachine}
-use Rattle.definition_tape.specs.Layout.{lengthOf, kindOf, payloadOf, restOf, recordsWithin, recordsOf, firstOf, cellsFrom, blockCells, controlOf}
+use Rattle.acceptance.specs.Accept.{sizeFits, cellsFit, stateFits, controlFits, timerFits, judgeStore, judgeRegisters, judgeMachine}
+use Rattle.definition_tape.specs.Layout.{lengthOf, kindOf, payloadOf, restOf, recordsWithin, recordsOf, firstOf, cellsFrom, blockCells, controlOf, timerOf, controlRecordOf}
 use Rattle.definition_tape.specs.Judge.{kindKnown, inOrder, lengthFits, judgeBlock, controlGood, judgeControl, judgePayload, judgeRecord, names, timesNamed, unnamedFrom, judgeRecords, judgeTape}
 use Rattle.definition_tape.specs.Load.{pasted, storedBlock, loadRecord, loadRecords, tapeCells, loadedControl, judgeLoad, cleared, loading, overlaying}
 use Rattle.definition_tape.specs.Blocks.{Block, Names, Named, NamedOnce, stretch, blocksFrom, storeBlocks}
@@ -24,12 +26,16 @@ use Rattle.definition_tape.specs.Remark.{judgeReading, noSpan, remarkSpa
 
 -- opens what a tape is read by
 unfoldable pub opened : ℕ
-unfolding lengthOf kindOf payloadOf restOf recordsWithin recordsOf firstOf controlOf kindKnown inOrder lengthFits controlGood judgeControl judgePayload judgeRecord names timesNamed unnamedFrom judgeRecords judgeTape sizeFits cellsFit stateFits controlFits judgeStore loadRecord loadRecords tapeCells loadedControl judgeLoad cleared loading overlaying judgeReading remarkSpan cellsFrom blockCells judgeBlock pasted storedBlock
+unfolding lengthOf kindOf payloadOf restOf recordsWithin recordsOf firstOf controlOf timerOf controlRecordOf kindKnown inOrder lengthFits controlGood judgeControl judgePayload judgeRecord names timesNamed unnamedFrom judgeRecords judgeTape sizeFits cellsFit stateFits controlFits timerFits judgeStore loadRecord loadRecords tapeCells loadedControl judgeLoad cleared loading overlaying judgeReading remarkSpan cellsFrom blockCells judgeBlock pasted storedBlock
 opened = 0
 
--- with flags f and the last byte z
+-- a control record with flags f, the twentieth byte z and the bytes q after it, then the end
+abbrev pub timerTape : ℕ → ℕ → List ℕ → List ℕ
+timerTape f z q = (20 + length q) ∷ 0 ∷ 0 ∷ 0 ∷ 2 ∷ 0 ∷ replicate 16 0 ++ (128 ∷ 0 ∷ f ∷ z ∷ q ++ (0 ∷ 0 ∷ 0 ∷ 0 ∷ 3 ∷ 0 ∷ []))
+
+-- of 20 bytes
 abbrev pub controlTape : ℕ → ℕ → List ℕ
-controlTape f z = 20 ∷ 0 ∷ 0 ∷ 0 ∷ 2 ∷ 0 ∷ replicate 16 0 ++ (128 ∷ 0 ∷ f ∷ z ∷ 0 ∷ 0 ∷ 0 ∷ 0 ∷ 3 ∷ 0 ∷ [])
+controlTape f z = timerTape f z []
 
 abbrev pub flagsTape : ℕ → List ℕ
 flagsTape f = controlTape f 0
@@ -37,16 +43,16 @@ flagsTape f = controlTape f 0
 abbrev pub scopeTape : List ℕ
 scopeTape = flagsTape 5
 
--- IC, IR, IM, pending and EX zero, PR 128, monitor mode, the reset state; the cells are cleared; there is no remark
-pub paper-tape : (c : Control) → (loading scopeTape (replicate 8 7) c ≡ record { cells = replicate 8 0; state = record { control = freshRecord; verdict = Accepted } }) × (remarkSpan scopeTape 8 ≡ noSpan 0)
+-- IC, IR, IM, pending and EX zero, PR 128, monitor mode, the reset state, a timer of four zeroes; the cells are cleared; there is no remark
+pub paper-tape : (c : Record) → (loading scopeTape (replicate 8 7) c ≡ record { cells = replicate 8 0; state = record { control = freshRecord; verdict = Accepted } }) × (remarkSpan scopeTape 8 ≡ noSpan 0)
 unfolding opened
 paper-tape c = (refl, refl)
 
 -- values 1 monitor, 2 enabled, 4 reset, each told apart
-abbrev pub modesAfter : ℕ → Control → Bool × Bool × Bool
-modesAfter f c = let d = loading (flagsTape f) (replicate 8 7) c .state .control in (d .monitor, d .enabled, d .reset)
+abbrev pub modesAfter : ℕ → Record → Bool × Bool × Bool
+modesAfter f c = let d = loading (flagsTape f) (replicate 8 7) c .state .control .registers in (d .monitor, d .enabled, d .reset)
 
-pub flags-apart : (c : Control)
+pub flags-apart : (c : Record)
     → (modesAfter 0 c ≡ (false, false, false))
     × (modesAfter 1 c ≡ (true, false, false))
     × (modesAfter 2 c ≡ (false, true, false))
@@ -59,7 +65,7 @@ flags-apart c = (refl, refl, refl, refl, refl)
 abbrev pub blockTape : List ℕ
 blockTape = 12 ∷ 0 ∷ 0 ∷ 0 ∷ 1 ∷ 0 ∷ 6 ∷ 0 ∷ 0 ∷ 0 ∷ 5 ∷ 0 ∷ 0 ∷ 0 ∷ 6 ∷ 0 ∷ 0 ∷ 7 ∷ 1 ∷ 0 ∷ 0 ∷ 0 ∷ 4 ∷ 0 ∷ 65 ∷ scopeTape
 
-pub block-tape : (c : Control) → (loading blockTape (replicate 8 7) c .cells ≡ replicate 6 0 ++ (5 ∷ 117440518 ∷ [])) × (remarkSpan blockTape 8 ≡ record { start = 24; end = 25; found = true; refusal = 0 })
+pub block-tape : (c : Record) → (loading blockTape (replicate 8 7) c .cells ≡ replicate 6 0 ++ (5 ∷ 117440518 ∷ [])) × (remarkSpan blockTape 8 ≡ record { start = 24; end = 25; found = true; refusal = 0 })
 unfolding opened
 block-tape c = (refl, refl)
 
@@ -68,24 +74,79 @@ pub text-place : placeFrom (3, 1000) (remarkSpan blockTape 8 .start) ≡ (3, 102
 unfolding opened
 text-place = refl
 
--- a block of one cell and a control record, no two bytes of a number alike
-abbrev pub bytesTape : List ℕ
-bytesTape =
+-- a block of one cell and a control record with the bytes q after the 20, no two bytes of a number alike
+abbrev pub bytesTape : List ℕ → List ℕ
+bytesTape q =
     8 ∷ 0 ∷ 0 ∷ 0 ∷ 1 ∷ 0 ∷ 7 ∷ 0 ∷ 0 ∷ 0 ∷ 1 ∷ 2 ∷ 3 ∷ 4
-    ∷ 20 ∷ 0 ∷ 0 ∷ 0 ∷ 2 ∷ 0 ∷ 1 ∷ 2 ∷ 3 ∷ 0 ∷ 4 ∷ 5 ∷ 6 ∷ 0 ∷ 7 ∷ 8 ∷ 9 ∷ 0 ∷ 10 ∷ 11 ∷ 12 ∷ 0 ∷ 130 ∷ 5 ∷ 2 ∷ 0
-    ∷ 0 ∷ 0 ∷ 0 ∷ 0 ∷ 3 ∷ 0 ∷ []
+    ∷ (20 + length q) ∷ 0 ∷ 0 ∷ 0 ∷ 2 ∷ 0 ∷ 1 ∷ 2 ∷ 3 ∷ 0 ∷ 4 ∷ 5 ∷ 6 ∷ 0 ∷ 7 ∷ 8 ∷ 9 ∷ 0 ∷ 10 ∷ 11 ∷ 12 ∷ 0 ∷ 130 ∷ 5 ∷ 2 ∷ 0 ∷ q
+    ++ (0 ∷ 0 ∷ 0 ∷ 0 ∷ 3 ∷ 0 ∷ [])
 
-pub bytes-tape : (c : Control)
-    → loading bytesTape (replicate 8 7) c
-    ≡ record {
-      cells = replicate 7 0 ++ (67305985 ∷ []);
-      state = record {
-        control = record { ic = 197121; ir = 394500; im = 591879; pending = 789258; pr = 130; ex = 5; monitor = false; enabled = true; reset = false };
-        verdict = Accepted;
-      };
-    }
+-- the record that is read from it, with the timer t
+abbrev pub bytesRecord : Timer → Record
+bytesRecord t =
+    record { registers = record { ic = 197121; ir = 394500; im = 591879; pending = 789258; pr = 130; ex = 5; monitor = false; enabled = true; reset = false }; timer = t }
+
+-- elapsed, period and phase (4 bytes each), line (1)
+abbrev pub fullTimer : List ℕ
+fullTimer = 1 ∷ 2 ∷ 3 ∷ 4 ∷ 5 ∷ 6 ∷ 7 ∷ 8 ∷ 9 ∷ 10 ∷ 11 ∷ 4 ∷ 23 ∷ []
+
+abbrev pub readTimer : Timer
+readTimer = record { elapsed = 67305985; period = 134678021; phase = 67832329; line = 23 }
+
+-- 20 bytes are read with a timer of four zeroes, 33 with the timer that they hold; by an overlay too
+pub bytes-tape : (c : Record)
+    → (loading (bytesTape []) (replicate 8 7) c ≡ record { cells = replicate 7 0 ++ (67305985 ∷ []); state = record { control = bytesRecord timerOff; verdict = Accepted } })
+    × (loading (bytesTape fullTimer) (replicate 8 7) c ≡ record { cells = replicate 7 0 ++ (67305985 ∷ []); state = record { control = bytesRecord readTimer; verdict = Accepted } })
+    × (overlaying (bytesTape fullTimer) (replicate 8 7) c ≡ record { cells = replicate 7 7 ++ (67305985 ∷ []); state = record { control = bytesRecord readTimer; verdict = Accepted } })
 unfolding opened
-bytes-tape c = refl
+bytes-tape c = (refl, refl, refl)
+
+-- ---- 8, 3 and 18 on a control record (document 02, E6)
+
+-- with the twentieth byte z and the bytes q after it
+abbrev pub controlVerdict : ℕ → List ℕ → ℕ
+controlVerdict z q = verdictNumber (judgeTape 8 (timerTape 5 z q))
+
+-- 20 and 33 bytes pass; 21, 32 and 34 are 8
+pub control-lengths :
+    (controlVerdict 0 [] ≡ 0)
+    × (controlVerdict 0 (replicate 13 0) ≡ 0)
+    × (controlVerdict 0 (replicate 1 0) ≡ 8)
+    × (controlVerdict 0 (replicate 12 0) ≡ 8)
+    × (controlVerdict 0 (replicate 14 0) ≡ 8)
+unfolding opened
+control-lengths = (refl, refl, refl, refl, refl)
+
+-- the twentieth byte is zero in both forms
+pub zero-byte : (controlVerdict 1 [] ≡ 3) × (controlVerdict 1 (replicate 13 0) ≡ 3)
+unfolding opened
+zero-byte = (refl, refl)
+
+-- a timer with the period p, the phase f and the line l
+abbrev pub timerFields : ℕ → ℕ → ℕ → List ℕ
+timerFields p f l = 0 ∷ 0 ∷ 0 ∷ 0 ∷ p ∷ 0 ∷ 0 ∷ 0 ∷ f ∷ 0 ∷ 0 ∷ 0 ∷ l ∷ []
+
+-- with a period of 2 the lines 3 and 23 and the phase 1 pass; 18 are line 2, line 24, and a phase equal to the period
+pub timer-fields :
+    (controlVerdict 0 (timerFields 2 0 3) ≡ 0)
+    × (controlVerdict 0 (timerFields 2 1 23) ≡ 0)
+    × (controlVerdict 0 (timerFields 2 0 2) ≡ 18)
+    × (controlVerdict 0 (timerFields 2 0 24) ≡ 18)
+    × (controlVerdict 0 (timerFields 2 2 3) ≡ 18)
+unfolding opened
+timer-fields = (refl, refl, refl, refl, refl)
+
+-- with a period of 0 any line and phase are accepted and kept
+pub timer-off : (c : Record)
+    → loading (timerTape 5 0 (timerFields 0 255 254)) (replicate 8 7) c .state
+    ≡ record { control = record { registers = freshControl; timer = record { elapsed = 0; period = 0; phase = 255; line = 254 } }; verdict = Accepted }
+unfolding opened
+timer-off c = refl
+
+-- 3 before 18: the twentieth byte, flags over 7
+pub fields-before-timer : (controlVerdict 1 (timerFields 2 2 2) ≡ 3) × (verdictNumber (judgeTape 8 (timerTape 8 0 (timerFields 2 2 2))) ≡ 3)
+unfolding opened
+fields-before-timer = (refl, refl)
 
 -- ---- load and overlay
 
@@ -94,14 +155,14 @@ abbrev pub oldCells : List ℕ
 oldCells = 117440513 ∷ 2 ∷ 16777219 ∷ 4 ∷ 5 ∷ 50331654 ∷ 7 ∷ 33554440 ∷ 83886089 ∷ []
 
 -- a load clears the seven cells that no block names, words and keys; an overlay keeps them; the control record is the tape's by both
-pub cleared-and-kept : (c : Control)
+pub cleared-and-kept : (c : Record)
     → (loading blockTape oldCells c ≡ record { cells = 0 ∷ 0 ∷ 0 ∷ 0 ∷ 0 ∷ 0 ∷ 5 ∷ 117440518 ∷ 0 ∷ []; state = record { control = freshRecord; verdict = Accepted } })
     × (overlaying blockTape oldCells c ≡ record { cells = 117440513 ∷ 2 ∷ 16777219 ∷ 4 ∷ 5 ∷ 50331654 ∷ 5 ∷ 117440518 ∷ 83886089 ∷ []; state = record { control = freshRecord; verdict = Accepted } })
 unfolding opened
 cleared-and-kept c = (refl, refl)
 
 -- refused with 6, both leave cells and control record as they came
-pub refused-as-given : (c : Control)
+pub refused-as-given : (c : Record)
     → (loading [] oldCells c ≡ record { cells = oldCells; state = record { control = c; verdict = Rejected TapeEnds } })
     × (overlaying [] oldCells c ≡ record { cells = oldCells; state = record { control = c; verdict = Rejected TapeEnds } })
 unfolding opened
@@ -111,7 +172,7 @@ refused-as-given c = (refl, refl)
 abbrev pub badCells : List ℕ
 badCells = 134217728 ∷ oldCells
 
-pub cells-as-they-came : (c : Control)
+pub cells-as-they-came : (c : Record)
     → (loading scopeTape badCells c ≡ record { cells = badCells; state = record { control = c; verdict = Rejected CellValue } })
     × (overlaying scopeTape badCells c ≡ record { cells = badCells; state = record { control = c; verdict = Rejected CellValue } })
 unfolding opened
@@ -162,14 +223,10 @@ overlapping = (
   λ o. o .0 2 (record { from = omega arith; below = omega arith }) (inr (inl (record { from = omega arith; below = omega arith }))),
 )
 
--- flags over 7 and a last byte other than zero are 3
+-- flags over 7 are 3
 pub flags-8 : verdictNumber (judgeTape 8 (controlTape 8 0)) ≡ 3
 unfolding opened
 flags-8 = refl
-
-pub last-byte : verdictNumber (judgeTape 8 (controlTape 5 1)) ≡ 3
-unfolding opened
-last-byte = refl
 
 -- an unknown kind after the control record is 7, another record there is 11
 pub unknown-kind : judgeTape 8 (take 26 scopeTape ++ (0 ∷ 0 ∷ 0 ∷ 0 ∷ 9 ∷ 0 ∷ [])) ≡ Rejected RecordKind
@@ -184,7 +241,7 @@ second-control = refl
 
 -- opens what a tape is written by
 unfoldable pub openedWriting : ℕ
-unfolding stretch blocksFrom storeBlocks headerBytes recordBytes cellsBytes blockBytes blocksBytes controlBytes remarkRecord tapeOf sizeFits cellsFit stateFits controlFits judgeMachine remarkFits judgeSize judgeParts judgeWriting writing
+unfolding stretch blocksFrom storeBlocks headerBytes recordBytes cellsBytes blockBytes blocksBytes controlBytes remarkRecord tapeOf sizeFits cellsFit stateFits controlFits timerFits judgeRegisters judgeMachine remarkFits judgeSize judgeParts judgeWriting writing
 openedWriting = 0
 
 -- lengths and first cells in four bytes, kinds in two
@@ -192,32 +249,53 @@ pub numbers-in-bytes : (headerBytes 513 67305985 ≡ 1 ∷ 2 ∷ 3 ∷ 4 ∷ 1 �
 unfolding openedWriting
 numbers-in-bytes = (refl, refl)
 
--- document 01's tape is the tape of a fresh machine
-pub fresh-tape : tapeOf (replicate 8 0) freshRecord none ≡ scopeTape
+-- document 01's tape with a control record of 33 bytes is the tape of a fresh machine: a timer of four zeroes is written too
+abbrev pub freshTape : List ℕ
+freshTape = timerTape 5 0 (replicate 13 0)
+
+pub fresh-tape : (tapeOf (replicate 8 0) freshRecord none ≡ freshTape) × (length freshTape ≡ 45)
 unfolding openedWriting
-fresh-tape = refl
+fresh-tape = (refl, refl)
 
 -- a remark of one byte, then the cells 6 and 7 in one block: a key with no word is written
 pub written-block : tapeOf (replicate 6 0 ++ (5 ∷ 117440512 ∷ [])) freshRecord (some (65 ∷ []))
-    ≡ 1 ∷ 0 ∷ 0 ∷ 0 ∷ 4 ∷ 0 ∷ 65 ∷ 12 ∷ 0 ∷ 0 ∷ 0 ∷ 1 ∷ 0 ∷ 6 ∷ 0 ∷ 0 ∷ 0 ∷ 5 ∷ 0 ∷ 0 ∷ 0 ∷ 0 ∷ 0 ∷ 0 ∷ 7 ∷ scopeTape
+    ≡ 1 ∷ 0 ∷ 0 ∷ 0 ∷ 4 ∷ 0 ∷ 65 ∷ 12 ∷ 0 ∷ 0 ∷ 0 ∷ 1 ∷ 0 ∷ 6 ∷ 0 ∷ 0 ∷ 0 ∷ 5 ∷ 0 ∷ 0 ∷ 0 ∷ 0 ∷ 0 ∷ 0 ∷ 7 ∷ freshTape
 unfolding openedWriting
 written-block = refl
 
 -- a remark of two bytes, two blocks in rising order, a control record with no two bytes of a number alike
 pub written-machine :
-    tapeOf (67305985 ∷ replicate 5 0 ++ (5 ∷ 117440512 ∷ []))
-    (record { ic = 197121; ir = 394500; im = 591879; pending = 789258; pr = 130; ex = 5; monitor = false; enabled = true; reset = false }) (some (65 ∷ 66 ∷ []))
+    tapeOf (67305985 ∷ replicate 5 0 ++ (5 ∷ 117440512 ∷ [])) (bytesRecord readTimer) (some (65 ∷ 66 ∷ []))
     ≡ 2 ∷ 0 ∷ 0 ∷ 0 ∷ 4 ∷ 0 ∷ 65 ∷ 66
     ∷ 8 ∷ 0 ∷ 0 ∷ 0 ∷ 1 ∷ 0 ∷ 0 ∷ 0 ∷ 0 ∷ 0 ∷ 1 ∷ 2 ∷ 3 ∷ 4
     ∷ 12 ∷ 0 ∷ 0 ∷ 0 ∷ 1 ∷ 0 ∷ 6 ∷ 0 ∷ 0 ∷ 0 ∷ 5 ∷ 0 ∷ 0 ∷ 0 ∷ 0 ∷ 0 ∷ 0 ∷ 7
-    ∷ drop 14 bytesTape
+    ∷ drop 14 (bytesTape fullTimer)
 unfolding openedWriting
 written-machine = refl
 
+-- with a period of 0 line and phase are written as they are
+pub written-timer-off :
+    tapeOf (replicate 8 0) (record { registers = freshControl; timer = record { elapsed = 0; period = 0; phase = 255; line = 254 } }) none ≡ timerTape 5 0 (timerFields 0 255 254)
+unfolding openedWriting
+written-timer-off = refl
+
 -- an empty remark is written, no remark is not
-pub empty-remark : tapeOf (replicate 8 0) freshRecord (some []) ≡ 0 ∷ 0 ∷ 0 ∷ 0 ∷ 4 ∷ 0 ∷ scopeTape
+pub empty-remark : tapeOf (replicate 8 0) freshRecord (some []) ≡ 0 ∷ 0 ∷ 0 ∷ 0 ∷ 4 ∷ 0 ∷ freshTape
 unfolding openedWriting
 empty-remark = refl
+
+-- 3 before 18, 18 before 14: PR 127, line 2 with a period of 2, a remark of 256 bytes
+abbrev pub refusedWrite : ℕ → ℕ → Verdict
+refusedWrite pr period =
+    judgeWriting (replicate 8 0)
+    (record {
+      registers = record { ic = 0; ir = 0; im = 0; pending = 0; pr = pr; ex = 0; monitor = true; enabled = false; reset = true };
+      timer = record { elapsed = 0; period = period; phase = 0; line = 2 };
+    }) (some (replicate 256 0)) 100
+
+pub refused-writes : (refusedWrite 127 2 ≡ Rejected ControlField) × (refusedWrite 128 2 ≡ Rejected TimerField) × (refusedWrite 128 0 ≡ Rejected RemarkLength)
+unfolding openedWriting
+refused-writes = (refl, refl, refl)
 
 -- 15 before 16; a tape of 65,536 bytes and a buffer as long as the tape pass
 pub sizes : (judgeSize 65537 65536 ≡ Rejected WrittenLength) × (judgeSize 65536 65535 ≡ Rejected BufferLength) × (judgeSize 65536 65536 ≡ Accepted)

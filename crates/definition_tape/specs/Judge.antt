@@ -1,4 +1,4 @@
--- The refusal of a tape (document 01, "Who can be refused, for what": whoever punched the tape; document 02, E4), for a store of n cells.
+-- The refusal of a tape (document 01, "Who can be refused, for what": whoever punched the tape; document 02, E4 and E6), for a store of n cells.
 -- Assumes nothing.
 use Prim.Native.Nat.{ℕ, zero, suc, _+_, _%_}
 use mathlib.Core.Bool.{Bool, true, false, not, cond}
@@ -8,8 +8,8 @@ use lib.Dec.{eqb, ltb, leb}
 use Rattle.machine.specs.declared.Refusal.the-variants.{ControlField, TapeEnds, RecordKind, RecordLength, BlockPlace, BlockCell, RecordOrder, TapeLength, BlockOverlap}
 use Rattle.machine.specs.declared.Verdict.{Verdict}
 use Rattle.machine.specs.declared.Verdict.the-variants.{Accepted, Rejected}
-use Rattle.acceptance.specs.Accept.{cellsFit, controlFits}
-use Rattle.definition_tape.specs.Layout.{lengthOf, kindOf, payloadOf, recordsOf, firstCell, cellCount, blockCells, flagsOf, lastByte, controlOf}
+use Rattle.acceptance.specs.Accept.{cellsFit, controlFits, judgeTimer}
+use Rattle.definition_tape.specs.Layout.{lengthOf, kindOf, payloadOf, recordsOf, firstCell, cellCount, blockCells, flagsOf, zeroByte, controlOf, timerOf}
 
 -- ---- the tests on one record
 
@@ -21,21 +21,23 @@ kindKnown k = cond (ltb k 1) false (leb k 4)
 unfoldable pub inOrder : Bool → ℕ → Bool
 inOrder after k = cond after (eqb k 3) (not (eqb k 3))
 
--- 8: length wrong for the kind: a block has an index and one or more cells, a control record 20 bytes, the end none, a remark 0 to 255
+-- 8: length wrong for the kind: a block has an index and one or more cells, a control record 20 or 33 bytes, the end none,
+-- a remark 0 to 255
 unfoldable pub lengthFits : ℕ → ℕ → Bool
-lengthFits k l = cond (eqb k 1) (cond (eqb (l % 4) 0) (leb 8 l) false) (cond (eqb k 2) (eqb l 20) (cond (eqb k 3) (eqb l 0) (leb l 255)))
+lengthFits k l = cond (eqb k 1) (cond (eqb (l % 4) 0) (leb 8 l) false) (cond (eqb k 2) (cond (eqb l 20) true (eqb l 33)) (cond (eqb k 3) (eqb l 0) (leb l 255)))
 
 -- 9: block beyond the store; 17: it names a cell that an earlier block names; 10: a cell as in 2. `unnamed`: no earlier block names a cell of it
 unfoldable pub judgeBlock : ℕ → Bool → List ℕ → Verdict
 judgeBlock n unnamed p =
     cond (leb (firstCell p + cellCount p) n) (cond unnamed (cond (cellsFit (blockCells p)) Accepted (Rejected BlockCell)) (Rejected BlockOverlap)) (Rejected BlockPlace)
 
--- 3: a control field outside its widths and rules, flags over 7, a last byte other than zero
+-- 3: a control field outside its widths and rules, flags over 7, a twentieth byte other than zero
 unfoldable pub controlGood : List ℕ → Bool
-controlGood p = cond (leb (flagsOf p) 7) (cond (eqb (lastByte p) 0) (controlFits (controlOf p)) false) false
+controlGood p = cond (leb (flagsOf p) 7) (cond (eqb (zeroByte p) 0) (controlFits (controlOf p)) false) false
 
+-- 18 (a line outside 3 to 23 when the period is not 0, or a phase not below a nonzero period) at the end of 3
 unfoldable pub judgeControl : List ℕ → Verdict
-judgeControl p = cond (controlGood p) Accepted (Rejected ControlField)
+judgeControl p = judgeTimer (cond (controlGood p) Accepted (Rejected ControlField)) (timerOf p)
 
 unfoldable pub judgePayload : ℕ → Bool → ℕ → List ℕ → Verdict
 judgePayload n unnamed k p = cond (eqb k 1) (judgeBlock n unnamed p) (cond (eqb k 2) (judgeControl p) Accepted)

@@ -1,4 +1,4 @@
--- The layout of a load tape (document 01, "Load tape"): bytes, records, and the payloads of blocks and control records.
+-- The layout of a load tape (document 01, "Load tape"; document 02, E6): bytes, records, and the payloads of blocks and control records.
 -- A record is spoken of by the tape from its header on. A byte that is not there reads as 0.
 -- Assumes nothing.
 use Prim.Native.Nat.{ℕ, zero, suc, _+_, _-_, _*_, _/_, _%_, _≤_, _<_}
@@ -8,6 +8,9 @@ use mathlib.Core.List.{List, [], _∷_}
 use lib.ListN.{length, take, drop, getD}
 use lib.Dec.{eqb, ltb}
 use Rattle.machine.specs.declared.Control.{Control}
+use Rattle.machine.specs.declared.Timer.{Timer}
+use Rattle.machine.specs.declared.Record.{Record}
+use Rattle.machine.specs.Records.{timerOff}
 
 -- all numbers little-endian: the four bytes from i on
 abbrev pub numberAt : List ℕ → ℕ → ℕ
@@ -66,13 +69,16 @@ pub record NamesCell (t : List ℕ) (i : ℕ) : Type 0 where
   pub from : firstCell (payloadOf t) ≤ i
   pub below : i < firstCell (payloadOf t) + cellCount (payloadOf t)
 
--- ---- a control record's payload: IC, IR, IM, pending (4 each), PR, EX, flags (1 each: 1 monitor, 2 enabled, 4 reset, summed), a zero byte
+-- ---- a control record's payload: IC, IR, IM, pending (4 each), PR, EX, flags (1 each: 1 monitor, 2 enabled, 4 reset, summed), a zero byte; of 33
+-- bytes also elapsed, period and phase (4 each) and the line (1)
 abbrev pub flagsOf : List ℕ → ℕ
 flagsOf p = getD p 18 0
 
-abbrev pub lastByte : List ℕ → ℕ
-lastByte p = getD p 19 0
+-- the twentieth, after the flags
+abbrev pub zeroByte : List ℕ → ℕ
+zeroByte p = getD p 19 0
 
+-- the control registers, in the first 20 bytes
 unfoldable pub controlOf : List ℕ → Control
 controlOf p =
     record {
@@ -86,3 +92,11 @@ controlOf p =
       enabled = eqb (flagsOf p / 2 % 2) 1;
       reset = eqb (flagsOf p / 4 % 2) 1;
     }
+
+-- elapsed time and interval timer, in the 13 bytes after them; of 20 bytes four zeroes
+unfoldable pub timerOf : List ℕ → Timer
+timerOf p = cond (ltb (length p) 33) timerOff (record { elapsed = numberAt p 20; period = numberAt p 24; phase = numberAt p 28; line = getD p 32 0 })
+
+-- the whole control record
+unfoldable pub controlRecordOf : List ℕ → Record
+controlRecordOf p = record { registers = controlOf p; timer = timerOf p }

@@ -1,4 +1,4 @@
--- Who is refused a tape, for what, and what the buffer holds after a call (document 02, E2).
+-- Who is refused a tape, for what, and what the buffer holds after a call (document 02, E2 and E6).
 -- Assumes nothing.
 use Prim.Native.Nat.{ℕ, _≤_}
 use mathlib.Core.Path.{_≡_}
@@ -7,7 +7,7 @@ use mathlib.Core.Option.{Option, none, some}
 use mathlib.Core.List.{List, _++_}
 use lib.ListN.{length, drop}
 use lib.Dec.{leb}
-use Rattle.machine.specs.declared.Control.{Control}
+use Rattle.machine.specs.declared.Record.{Record}
 use Rattle.machine.specs.declared.Refusal.{Refusal}
 use Rattle.machine.specs.declared.Refusal.the-variants.{RemarkLength, WrittenLength, BufferLength}
 use Rattle.machine.specs.declared.Verdict.{Verdict}
@@ -28,8 +28,8 @@ unfoldable pub remarkFits : Option (List ℕ) → Bool
 remarkFits none = true
 remarkFits (some r) = leb (length r) 255
 
--- a machine and remark that have a tape: 1, 2, 3, 14 and 15 passed
-pub record Writable (s : List ℕ) (c : Control) (m : Option (List ℕ)) : Type 0 where
+-- a machine and remark that have a tape: 1, 2, 3, 18, 14 and 15 passed
+pub record Writable (s : List ℕ) (c : Record) (m : Option (List ℕ)) : Type 0 where
   pub machine : judgeMachine s c ≡ Accepted
   pub remark : remarkFits m ≡ true
   pub size : length (tapeOf s c m) ≤ mostBytes
@@ -39,11 +39,11 @@ unfoldable pub judgeSize : ℕ → ℕ → Verdict
 judgeSize l n = cond (leb l mostBytes) (cond (leb l n) Accepted (Rejected BufferLength)) (Rejected WrittenLength)
 
 -- 14, 15, 16
-unfoldable pub judgeParts : List ℕ → Control → Option (List ℕ) → ℕ → Verdict
+unfoldable pub judgeParts : List ℕ → Record → Option (List ℕ) → ℕ → Verdict
 judgeParts s c m n = cond (remarkFits m) (judgeSize (length (tapeOf s c m)) n) (Rejected RemarkLength)
 
--- for a buffer of n bytes: 1, 2, 3, then 14, 15, 16
-unfoldable pub judgeWriting : List ℕ → Control → Option (List ℕ) → ℕ → Verdict
+-- for a buffer of n bytes: 1, 2, 3, 18, then 14, 15, 16
+unfoldable pub judgeWriting : List ℕ → Record → Option (List ℕ) → ℕ → Verdict
 judgeWriting s c m n = judgeThen (judgeMachine s c) (judgeParts s c m n)
 
 pub record Writing : Type 0 where
@@ -60,5 +60,5 @@ writingBy Accepted t out = record { bytes = t ++ drop (length t) out; answer = r
 writingBy (Rejected r) t out = record { bytes = out; answer = refusedWriting r }
 
 -- the machine with the cells s and the control record c and its remark, written into a buffer
-unfoldable pub writing : List ℕ → Control → Option (List ℕ) → List ℕ → Writing
+unfoldable pub writing : List ℕ → Record → Option (List ℕ) → List ℕ → Writing
 writing s c m out = writingBy (judgeWriting s c m (length out)) (tapeOf s c m) out

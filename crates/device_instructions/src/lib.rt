@@ -13,11 +13,14 @@ ghost use Rattle.definition_instructions.specs.MicroOps.{deviceSteps};
 ghost use Rattle.definition_instructions.specs.Meaning.{IO, AW, rejection, autoloading};
 ghost use Rattle.definition_instructions.specs.Codes.{executeDevice};
 ghost use Rattle.channel_row.specs.Row.{channelAt, IsChannel};
+ghost use Rattle.definition_times.specs.Times.{deviceTime};
+ghost use Rattle.timer_row.specs.Row.{clockAt, passing, clockAfter, IsClock};
 use channel_row::Channel;
 use control_row::End;
 use control_row::Row;
 use machine::Control;
 use registers::WORD_RANGE;
+use timer_row::Clock;
 
 // EX(22:23): disconnected, busy.
 fn rejection(rejected: bool) -> u32
@@ -27,20 +30,23 @@ fn rejection(rejected: bool) -> u32
     if rejected { 2 } else { 0 }
 }
 
-// Input/Output.
+// Input/Output. Each way through it adds its own time; one that ends in a fault adds none.
 pub fn io(
     s: &mut [u32],
     k: &mut Row,
+    t: &mut Clock,
     h: &mut Channel,
     characters: &[u8],
     typing: &mut [u8],
     w: u32,
     sb: u32,
 ) -> End
-    requires { ⌜ IsRow (now k) × IsChannel (now h) (now characters) (now typing) ⌝ }
+    requires { ⌜ IsRow (now k) × IsClock (now t) × IsChannel (now h) (now characters) (now typing) ⌝ }
     ensures value { λ r. ⌜ endingWith (channelAt (now (h .exit)) (now (characters .entry)) (now (typing .exit))) (endingOf r (now (s .exit)) (controlAt (now (k .exit)))) ≡ ending (executeDevice IO w sb (machine (now (s .entry)) (controlAt (now (k .entry))) (channelAt (now (h .entry)) (now (characters .entry)) (now (typing .entry))))) ⌝ }
     ensures kept { λ _. ⌜ IsRow (now (k .exit)) ⌝ }
     ensures channel { λ _. ⌜ IsChannel (now (h .exit)) (now (characters .entry)) (now (typing .exit)) ⌝ }
+    ensures time { λ r. ⌜ clockAfter r (clockAt (now (t .exit))) ≡ clockAfter r (passing (deviceTime IO sb (machine (now (s .entry)) (controlAt (now (k .entry))) (channelAt (now (h .entry)) (now (characters .entry)) (now (typing .entry))))) (clockAt (now (t .entry)))) ⌝ }
+    ensures clock { λ _. ⌜ IsClock (now (t .exit)) ⌝ }
 {
     if control_row::is_task(k) {
         return End::Faulted;
@@ -50,22 +56,27 @@ pub fn io(
     let x = control_row::ex(k);
     control_row::set_ex(k, x / 4 * 4 + r);
     if rejected {
+        timer_row::advance(t, 40);
         return End::Done;
     }
     if sb % 4 == 0 {
         let v = channel_row::buffer_at(h, characters, typing, sb / 64);
         machine::put_word(s, w, v);
+        timer_row::advance(t, 70);
         return End::Done;
     }
     if sb % 4 == 1 {
+        timer_row::advance(t, 65);
         return End::Done;
     }
     if sb % 4 == 2 {
         channel_row::read(h, characters, typing, sb / 64);
+        timer_row::advance(t, 50);
         return End::Done;
     }
     let v = machine::word_at(s, w);
     channel_row::write(h, characters, typing, sb / 64, v);
+    timer_row::advance(t, 65);
     End::Done
 }
 

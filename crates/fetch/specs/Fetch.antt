@@ -3,6 +3,7 @@ use Prim.Native.Nat.{ℕ, _/_, _%_}
 use mathlib.Core.Path.{_≡_}
 use mathlib.Core.Bool.{Bool, true, false, cond}
 use mathlib.Core.List.{List}
+use lib.Dec.{eqb, ltb}
 use Rattle.registers.specs.Reg.{wordRange}
 use Rattle.machine.specs.declared.Control.{Control}
 use Rattle.machine.specs.Store.{key, absent, forbids}
@@ -26,3 +27,10 @@ violates c q = cond (c .monitor) false (forbids (c .pr) q)
 -- where it passes, monitor mode := PR(PK) = 1
 unfoldable pub fetchMode : Control → ℕ → Control
 fetchMode c q = cond (violates c q) c (withMonitor c (forbids (c .pr) q))
+
+-- the time of relative addressing, with what indexing adds where both are done; that of indexing alone
+unfoldable pub relativeTime : ℕ → ℕ → ℕ
+relativeTime m x = cond (ltb m 2) 0 (cond (eqb x 0) 5 10)
+
+unfoldable pub indexedTime : ℕ → ℕ
+indexedTime x = cond (eqb x 0) 0 5

@@ -8,10 +8,13 @@ ghost use Rattle.machine.specs.Fields.{withIC};
 ghost use Rattle.integer.specs.Sums.{sum24};
 ghost use Rattle.definition_runs.specs.Cycle.{relative, indexed, address, indirectAbsent, effectiveAddress};
 ghost use Rattle.control_row.specs.Row.{controlAt, IsRow};
-ghost use Rattle.fetch.specs.Fetch.{Fetched, fetchAbsent, violates, fetchMode};
+ghost use Rattle.definition_times.specs.Times.{modificationTime, indirectTime};
+ghost use Rattle.timer_row.specs.Row.{clockAt, passing, IsClock};
+ghost use Rattle.fetch.specs.Fetch.{Fetched, fetchAbsent, violates, fetchMode, relativeTime, indexedTime};
 use control_row::Row;
 use machine::Instruction;
 use registers::WORD_RANGE;
+use timer_row::Clock;
 
 // The cell of an even IC; of an odd IC a place that no store has: so one comparison tells an even IC that is there.
 fn rotated(ic: u32) -> u32
@@ -37,38 +40,55 @@ pub fn fetched(s: &[u32], ic: u32) -> u32
     q * WORD_RANGE + f * 4096 + d
 }
 
-fn relative(m: u32, ic: u32, a: u32) -> u32
-    requires { ⌜ a < wordRange ⌝ }
+fn relative(t: &mut Clock, m: u32, x: u32, ic: u32, a: u32) -> u32
+    requires { ⌜ (a < wordRange) × IsClock (now t) ⌝ }
     ensures value { λ r. ⌜ r ≡ relative m ic a ⌝ }
     ensures bound { λ r. ⌜ r < wordRange ⌝ }
+    ensures time { λ _. ⌜ clockAt (now (t .exit)) ≡ passing (relativeTime m x) (clockAt (now (t .entry))) ⌝ }
+    ensures kept { λ _. ⌜ IsClock (now (t .exit)) ⌝ }
 {
-    if m < 2 { a } else { integer::sum24(a, ic) }
+    if m < 2 {
+        timer_row::advance(t, 0);
+        return a;
+    }
+    if x == 0 {
+        timer_row::advance(t, 5);
+        return integer::sum24(a, ic);
+    }
+    timer_row::advance(t, 10);
+    integer::sum24(a, ic)
 }
 
-fn indexed(s: &[u32], x: u32, a: u32) -> u32
-    requires { ⌜ a < wordRange ⌝ }
+fn indexed(s: &[u32], t: &mut Clock, x: u32, a: u32) -> u32
+    requires { ⌜ (a < wordRange) × IsClock (now t) ⌝ }
     ensures value { λ r. ⌜ r ≡ indexed (now (s .entry)) x a ⌝ }
     ensures bound { λ r. ⌜ r < wordRange ⌝ }
+    ensures time { λ _. ⌜ clockAt (now (t .exit)) ≡ passing (indexedTime x) (clockAt (now (t .entry))) ⌝ }
+    ensures kept { λ _. ⌜ IsClock (now (t .exit)) ⌝ }
 {
     if x == 0 {
-        a
-    } else {
-        let w = machine::word_at(s, x);
-        integer::sum24(a, w)
+        timer_row::advance(t, 0);
+        return a;
     }
+    timer_row::advance(t, 5);
+    let w = machine::word_at(s, x);
+    integer::sum24(a, w)
 }
 
-pub fn address(s: &[u32], k: &Row, i: Instruction) -> u32
-    requires { ⌜ i .d < 4096 ⌝ }
+// The address before indirection; its time passes.
+pub fn address(s: &[u32], k: &Row, t: &mut Clock, i: Instruction) -> u32
+    requires { ⌜ (i .d < 4096) × IsClock (now t) ⌝ }
     ensures value { λ r. ⌜ r ≡ address (now (s .entry)) (controlAt (now (k .entry))) i ⌝ }
     ensures bound { λ r. ⌜ r < wordRange ⌝ }
+    ensures time { λ _. ⌜ clockAt (now (t .exit)) ≡ passing (modificationTime (i .m) (i .x)) (clockAt (now (t .entry))) ⌝ }
+    ensures kept { λ _. ⌜ IsClock (now (t .exit)) ⌝ }
 {
     let d = registers::signed_byte(i.d);
     let q = control_row::pending(k);
     let p = integer::sum24(d, q);
     let n = control_row::ic(k);
-    let a = relative(i.m, n, p);
-    indexed(s, i.x, a)
+    let a = relative(t, i.m, i.x, n, p);
+    indexed(s, t, i.x, a)
 }
 
 pub fn is_indirect_absent(s: &[u32], m: u32, a: u32) -> bool
@@ -81,11 +101,31 @@ pub fn is_indirect_absent(s: &[u32], m: u32, a: u32) -> bool
     }
 }
 
-pub fn effective_address(s: &[u32], m: u32, a: u32) -> u32
-    requires { ⌜ a < wordRange ⌝ }
+fn indirect_time(code: u32, m: u32) -> u32
+    ensures { λ r. ⌜ r ≡ indirectTime code m ⌝ }
+{
+    if m % 2 == 0 {
+        return 0;
+    }
+    if code < 32 {
+        return 15;
+    }
+    if code < 48 {
+        return 10;
+    }
+    15
+}
+
+// Indirection; its time passes.
+pub fn effective_address(s: &[u32], t: &mut Clock, code: u32, m: u32, a: u32) -> u32
+    requires { ⌜ (a < wordRange) × IsClock (now t) ⌝ }
     ensures value { λ r. ⌜ r ≡ effectiveAddress (now (s .entry)) m a ⌝ }
     ensures bound { λ r. ⌜ r < wordRange ⌝ }
+    ensures time { λ _. ⌜ clockAt (now (t .exit)) ≡ passing (indirectTime code m) (clockAt (now (t .entry))) ⌝ }
+    ensures kept { λ _. ⌜ IsClock (now (t .exit)) ⌝ }
 {
+    let n = indirect_time(code, m);
+    timer_row::advance(t, n);
     if m % 2 == 0 {
         a
     } else {

@@ -1,8 +1,8 @@
 // Convert Floating to Integer.
 ghost use mathlib.Core.Path.{_≡_};
 ghost use Prim.Native.Nat.{_^_, _<_};
-ghost use Rattle.floating.specs.Operands.{fraction, registerFraction};
-ghost use Rattle.floating.specs.Convert.{cfRounded, cfEnd, cfByPlaces, cf};
+ghost use Rattle.floating.specs.Operands.{fraction, exponent, registerFraction};
+ghost use Rattle.floating.specs.Convert.{cfPlaces, cfRounded, cfEnd, cfByPlaces, cf, fractionShifts};
 use super::Converted;
 use super::accumulator;
 use registers::BIT_0;
@@ -57,11 +57,29 @@ pub fn register_fraction(pre: u32, word: u32) -> u64
     (f + f / 34359738368 * 68719476736) * 4
 }
 
+// 23 - SB - signed Wexp, 24 bits.
+fn places(word: u32, sb: u32) -> u32
+    requires { ⌜ (word < 2 ^ 24) × (sb < 2 ^ 24) ⌝ }
+    ensures value { λ r. ⌜ r ≡ cfPlaces (exponent word) sb ⌝ }
+    ensures bound { λ r. ⌜ r < 2 ^ 24 ⌝ }
+{
+    let e = registers::signed_byte(word % 4096);
+    (23 + (WORD_RANGE - sb) + (WORD_RANGE - e)) % WORD_RANGE
+}
+
+// The single shifts that CF makes.
+pub fn shifts(word: u32, sb: u32) -> u32
+    requires { ⌜ (word < 2 ^ 24) × (sb < 2 ^ 24) ⌝ }
+    ensures { λ r. ⌜ (r ≡ fractionShifts word sb) × (r < 64) ⌝ }
+{
+    let n = places(word, sb);
+    if n < 64 { n } else { 0 }
+}
+
 pub fn convert(pre: u32, word: u32, sb: u32) -> Converted
     requires { ⌜ (pre < 2 ^ 24) × (word < 2 ^ 24) × (sb < 2 ^ 24) ⌝ }
     ensures { λ r. ⌜ r ≡ cf pre word sb ⌝ }
 {
-    let e = registers::signed_byte(word % 4096);
-    let n = (23 + (WORD_RANGE - sb) + (WORD_RANGE - e)) % WORD_RANGE;
+    let n = places(word, sb);
     by_places((n + BIT_0) % WORD_RANGE, word, register_fraction(pre, word))
 }

@@ -5,7 +5,7 @@ ghost use Rattle.floating.specs.Operands.{fetchFloating};
 ghost use Rattle.floating.specs.Add.{fa, fs};
 ghost use Rattle.floating.specs.Multiply.{fm};
 ghost use Rattle.floating.specs.Divide.{fd};
-ghost use Rattle.floating.specs.Convert.{cf};
+ghost use Rattle.floating.specs.Convert.{cf, fractionShifts};
 use rounding::Pair;
 
 mod accumulator;
@@ -81,4 +81,12 @@ pub fn convert_floating(pre: u32, word: u32, sb: u32) -> Converted
     ensures { λ r. ⌜ r ≡ cf pre word sb ⌝ }
 {
     conversion::convert(pre, word, sb)
+}
+
+// The single shifts that CF makes.
+pub fn fraction_shifts(word: u32, sb: u32) -> u32
+    requires { ⌜ (word < 2 ^ 24) × (sb < 2 ^ 24) ⌝ }
+    ensures { λ r. ⌜ (r ≡ fractionShifts word sb) × (r < 64) ⌝ }
+{
+    conversion::shifts(word, sb)
 }

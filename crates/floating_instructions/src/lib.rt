@@ -6,20 +6,28 @@ ghost use Rattle.control_row.specs.Row.{controlAt, IsRow};
 ghost use Rattle.control_row.specs.Endings.{ending, endingOf};
 ghost use Rattle.definition_instructions.specs.Codes.{execute};
 ghost use Rattle.definition_instructions.specs.Meaning.{CI, CF, FA, FS, FM, FD};
+ghost use Rattle.definition_instructions.specs.Machine.{computer};
+ghost use Rattle.definition_times.specs.Times.{operationTime};
+ghost use Rattle.timer_row.specs.Row.{clockAt, passing, IsClock};
 use control_row::End;
 use control_row::Row;
 use machine::FLOATING_OVERFLOW;
 use machine::INTEGER_OVERFLOW;
+use timer_row::Clock;
 
 // Convert Integer to Floating.
-pub fn ci(s: &mut [u32], k: &mut Row, w: u32, sb: u32) -> End
-    requires { ⌜ IsRow (now k) ⌝ }
+pub fn ci(s: &mut [u32], k: &mut Row, t: &mut Clock, w: u32, sb: u32) -> End
+    requires { ⌜ IsRow (now k) × IsClock (now t) ⌝ }
     ensures value { λ r. ⌜ endingOf r (now (s .exit)) (controlAt (now (k .exit))) ≡ ending (execute CI w sb (now (s .entry)) (controlAt (now (k .entry)))) ⌝ }
     ensures kept { λ _. ⌜ IsRow (now (k .exit)) ⌝ }
+    ensures time { λ _. ⌜ clockAt (now (t .exit)) ≡ passing (operationTime CI sb w (computer (now (s .entry)) (controlAt (now (k .entry))))) (clockAt (now (t .entry))) ⌝ }
+    ensures clock { λ _. ⌜ IsClock (now (t .exit)) ⌝ }
 {
     control_row::clear_flags(k);
     let x = machine::word_at(s, w);
     let r = rounding::convert_integer(x, sb);
+    let n = rounding::integer_shifts(x, sb, r.word);
+    timer_row::advance(t, 40 + 5 * n);
     control_row::note_overflow(k, r.over, FLOATING_OVERFLOW);
     let p = machine::previous_register(w);
     machine::put_long(s, p, r.pre);

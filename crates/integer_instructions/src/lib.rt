@@ -8,10 +8,14 @@ ghost use Rattle.control_row.specs.Row.{controlAt, IsRow};
 ghost use Rattle.control_row.specs.Endings.{ending, endingOf};
 ghost use Rattle.definition_instructions.specs.Codes.{execute};
 ghost use Rattle.definition_instructions.specs.Meaning.{AC, BA, BS, WA, WS, WM, WD, AA, SS, LA, LO, LX, AS, AD, LS, LD, NS, ND};
+ghost use Rattle.definition_instructions.specs.Machine.{computer};
+ghost use Rattle.definition_times.specs.Times.{operationTime};
+ghost use Rattle.timer_row.specs.Row.{clockAt, passing, IsClock};
 use control_row::End;
 use control_row::Row;
 use integer::Sum;
 use machine::INTEGER_OVERFLOW;
+use timer_row::Clock;
 
 // Test Integer.
 fn test_integer(k: &mut Row, r: Sum)
@@ -296,13 +300,17 @@ pub fn ld(s: &mut [u32], k: &mut Row, w: u32, sb: u32) -> End
 }
 
 // Normalize Single: the byte is stored after the shift.
-pub fn ns(s: &mut [u32], k: &mut Row, w: u32, sb: u32) -> End
-    requires { ⌜ IsRow (now k) ⌝ }
+pub fn ns(s: &mut [u32], k: &mut Row, t: &mut Clock, w: u32, sb: u32) -> End
+    requires { ⌜ IsRow (now k) × IsClock (now t) ⌝ }
     ensures value { λ r. ⌜ endingOf r (now (s .exit)) (controlAt (now (k .exit))) ≡ ending (execute NS w sb (now (s .entry)) (controlAt (now (k .entry)))) ⌝ }
     ensures kept { λ _. ⌜ IsRow (now (k .exit)) ⌝ }
+    ensures time { λ _. ⌜ clockAt (now (t .exit)) ≡ passing (operationTime NS sb w (computer (now (s .entry)) (controlAt (now (k .entry))))) (clockAt (now (t .entry))) ⌝ }
+    ensures clock { λ _. ⌜ IsClock (now (t .exit)) ⌝ }
 {
     let x = machine::word_at(s, w);
     let r = normalize::normalize_single(x);
+    let n = normalize::shifts_made(r.shifts);
+    timer_row::advance(t, 50 + 5 * n);
     machine::put_long(s, w, r.word);
     if machine::is_absent(s, sb) {
         return End::Faulted;
@@ -315,13 +323,17 @@ pub fn ns(s: &mut [u32], k: &mut Row, w: u32, sb: u32) -> End
 }
 
 // Normalize Double: the byte is stored after the shift.
-pub fn nd(s: &mut [u32], k: &mut Row, w: u32, sb: u32) -> End
-    requires { ⌜ IsRow (now k) ⌝ }
+pub fn nd(s: &mut [u32], k: &mut Row, t: &mut Clock, w: u32, sb: u32) -> End
+    requires { ⌜ IsRow (now k) × IsClock (now t) ⌝ }
     ensures value { λ r. ⌜ endingOf r (now (s .exit)) (controlAt (now (k .exit))) ≡ ending (execute ND w sb (now (s .entry)) (controlAt (now (k .entry)))) ⌝ }
     ensures kept { λ _. ⌜ IsRow (now (k .exit)) ⌝ }
+    ensures time { λ _. ⌜ clockAt (now (t .exit)) ≡ passing (operationTime ND sb w (computer (now (s .entry)) (controlAt (now (k .entry))))) (clockAt (now (t .entry))) ⌝ }
+    ensures clock { λ _. ⌜ IsClock (now (t .exit)) ⌝ }
 {
     let x = machine::pair_at(s, w);
     let r = normalize::normalize_double(x);
+    let n = normalize::shifts_made(r.shifts);
+    timer_row::advance(t, 55 + 5 * n);
     machine::put_pair(s, w, r.word);
     if machine::is_absent(s, sb) {
         return End::Faulted;

@@ -1,14 +1,14 @@
 // loadrun: a tape on standard input into 4,096 cells of zero, then 100 cycles with no lines; one line of output (document 01).
 use machine::Answer;
-use machine::Control;
 use machine::Devices;
 use machine::Outcome;
+use machine::Record;
 use machine::Run;
 use machine::Verdict;
 
 // The run of the machine that the tape loads, with no characters and no typing space lent; a refused tape is a refused run.
 fn load_and_run(store: &mut [u32], tape: &[u8]) -> Run {
-    let given = Control::fresh();
+    let given = Record::fresh();
     let devices = Devices {
         reader: 0,
         typewriter: 0,
@@ -50,7 +50,8 @@ fn write_outcome(o: Outcome) {
 }
 
 fn write_run(r: Run) {
-    let c = r.control;
+    let x = r.control;
+    let c = x.registers;
     let a = r.answer;
     match a {
         Answer::Refused(q) => {

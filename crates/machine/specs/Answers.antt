@@ -6,7 +6,7 @@ use Rattle.machine.specs.declared.Kind.the-variants.{Exception, Line}
 use Rattle.machine.specs.declared.Verdict.{Verdict}
 use Rattle.machine.specs.declared.Verdict.the-variants.{Accepted, Rejected}
 use Rattle.machine.specs.declared.Refusal.{Refusal}
-use Rattle.machine.specs.declared.Refusal.the-variants.{StoreSize, CellValue, ControlField, Lines, Budget, TapeEnds, RecordKind, RecordLength, BlockPlace, BlockCell, RecordOrder, TapeLength, Device, RemarkLength, WrittenLength, BufferLength, BlockOverlap}
+use Rattle.machine.specs.declared.Refusal.the-variants.{StoreSize, CellValue, ControlField, Lines, Budget, TapeEnds, RecordKind, RecordLength, BlockPlace, BlockCell, RecordOrder, TapeLength, Device, RemarkLength, WrittenLength, BufferLength, BlockOverlap, TimerField}
 
 -- document 01, "Who can be refused, for what"
 abbrev pub refusalNumber : Refusal → ℕ
@@ -44,6 +44,8 @@ refusalNumber WrittenLength = 15
 refusalNumber BufferLength = 16
 -- document 02, E4: a block names a cell that an earlier block of the tape names
 refusalNumber BlockOverlap = 17
+-- document 02, E6: where the period is not 0, a line outside 3 to 23 or a phase not below the period
+refusalNumber TimerField = 18
 
 -- 0: not refused
 abbrev pub verdictNumber : Verdict → ℕ

@@ -1,4 +1,4 @@
--- The control record, a field at a time. Each value is reduced to the field's width.
+-- The control registers, a field at a time. Each value is reduced to the field's width.
 -- Assumes nothing.
 use Prim.Native.Nat.{ℕ, _+_, _*_, _/_, _%_}
 use mathlib.Core.Bool.{Bool, not, cond}

@@ -6,7 +6,7 @@ ghost use lib.ListN.{getD, set};
 ghost use Rattle.registers.specs.Reg.{wordRange};
 ghost use Rattle.machine.specs.Store.{word, pair, key, putWord, putKey, byte, withByte, putByte, putLink, absent, forbids, firstWord, previous};
 ghost use Rattle.machine.specs.Fields.{withIR, raised};
-ghost use Rattle.machine.specs.Records.{freshRecord, resetRecord};
+ghost use Rattle.machine.specs.Records.{freshControl, resetControl, timerOff, freshRecord};
 ghost use Rattle.machine.specs.Answers.{refusalNumber, kindNumber};
 ghost use Rattle.machine.specs.Format.{instructionFields};
 use registers::LONG_WORD_RANGE;
@@ -17,7 +17,7 @@ pub const INTEGER_OVERFLOW: u32 = 4194304;
 
 pub const FLOATING_OVERFLOW: u32 = 2097152;
 
-// The control record (document 01, "The machine").
+// The control registers (document 01, "The machine"): the control record without the timer.
 #[repr(C)]
 pub struct Control {
     pub ic: u32,
@@ -42,7 +42,7 @@ impl Control {
 
     // The record after power on (14.4): everything zero but bit 0 of PR, in the reset state.
     pub fn fresh() -> Control
-        ensures { λ r. ⌜ r ≡ freshRecord ⌝ }
+        ensures { λ r. ⌜ r ≡ freshControl ⌝ }
     {
         Control {
             ic: 0,
@@ -59,7 +59,7 @@ impl Control {
 
     // The record in the reset state: nothing pending, monitor mode, interrupts disabled.
     pub fn in_reset(self) -> Control
-        ensures { λ r. ⌜ r ≡ resetRecord self ⌝ }
+        ensures { λ r. ⌜ r ≡ resetControl self ⌝ }
     {
         Control {
             ic: self.ic,
@@ -71,6 +71,51 @@ impl Control {
             monitor: true,
             enabled: false,
             reset: true,
+        }
+    }
+}
+
+// The elapsed time and the interval timer (document 02, E6), in tenths of a microsecond: period 0 for off; at the end of an interval the line with
+// this number, bit 0 the left-most, is raised.
+#[repr(C)]
+pub struct Timer {
+    pub elapsed: u32,
+    pub period: u32,
+    pub phase: u32,
+    pub line: u8,
+}
+
+impl Timer {
+    // No time elapsed, the interval timer off.
+    pub fn off() -> Timer
+        ensures { λ r. ⌜ r ≡ timerOff ⌝ }
+    {
+        Timer {
+            elapsed: 0,
+            period: 0,
+            phase: 0,
+            line: 0,
+        }
+    }
+}
+
+// The control record: the control registers and the timer.
+#[repr(C)]
+pub struct Record {
+    pub registers: Control,
+    pub timer: Timer,
+}
+
+impl Record {
+    // The record after power on (14.4): the fresh control registers, no time elapsed, the interval timer off.
+    pub fn fresh() -> Record
+        ensures { λ r. ⌜ r ≡ freshRecord ⌝ }
+    {
+        let c = Control::fresh();
+        let t = Timer::off();
+        Record {
+            registers: c,
+            timer: t,
         }
     }
 }
@@ -139,7 +184,7 @@ pub enum Outcome {
     Spent,
 }
 
-// The numbered refusals: 1 to 12 of document 01, "Who can be refused, for what", 13 of document 02, E1; in the order of their numbers.
+// The numbered refusals: 1 to 12 of document 01, "Who can be refused, for what", from 13 on of document 02; in the order of their numbers.
 pub enum Refusal {
     StoreSize,
     CellValue,
@@ -158,6 +203,7 @@ pub enum Refusal {
     WrittenLength,
     BufferLength,
     BlockOverlap,
+    TimerField,
 }
 
 impl Refusal {
@@ -182,6 +228,7 @@ impl Refusal {
             Refusal::WrittenLength => 15,
             Refusal::BufferLength => 16,
             Refusal::BlockOverlap => 17,
+            Refusal::TimerField => 18,
         }
     }
 }
@@ -200,7 +247,7 @@ pub enum Answer {
 
 // What a run hands back: `taken` of the reader's characters, `typed` bytes at the front of the typing buffer.
 pub struct Run {
-    pub control: Control,
+    pub control: Record,
     pub answer: Answer,
     pub executed: u32,
     pub entries: u32,
@@ -211,13 +258,13 @@ pub struct Run {
 
 // What the reset key, the start key and the loader hand back.
 pub struct State {
-    pub control: Control,
+    pub control: Record,
     pub verdict: Verdict,
 }
 
 // What the autoload key hands back.
 pub struct Autoloaded {
-    pub control: Control,
+    pub control: Record,
     pub verdict: Verdict,
     pub devices: Devices,
     pub taken: usize,

@@ -29,6 +29,14 @@ normalized n w =
     (record { word = 0; shifts = 2048 })
     (record { word = normalize n w .word; shifts = (2 ^ 12 - normalize n w .shifts) % 2 ^ 12 })
 
+-- the single shifts that NS and ND make: none for a zero
+unfoldable pub normalizingShifts : ℕ → ℕ → ℕ
+normalizingShifts n w = cond (eqb w 0) 0 (normalize n w .shifts)
+
+-- the same, by SC(12:23), which is less by one for each shift and -2048 for a zero
+unfoldable pub shiftsBy : ℕ → ℕ
+shiftsBy b = cond (eqb b 2048) 0 ((2 ^ 12 - b) % 2 ^ 12)
+
 -- NS of 1, -1 and 0: 22 shifts, 23 shifts, and the zero's byte
 ns-1 : normalized 24 1 ≡ record { word = 4194304; shifts = 4096 - 22 }
 unfolding normalized normalize until

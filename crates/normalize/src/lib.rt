@@ -1,7 +1,7 @@
 // Normalizing a register of 48 bits; narrower ones stand at its left.
 ghost use mathlib.Core.Path.{_≡_};
 ghost use Prim.Native.Nat.{_^_, _<_};
-ghost use Rattle.normalize.specs.Norm.{normalize, normalized};
+ghost use Rattle.normalize.specs.Norm.{normalize, normalized, shiftsBy};
 use registers::LONG_WORD_RANGE;
 
 // The register, and the count of shifts or, of NS and ND, the byte to store.
@@ -24,6 +24,15 @@ pub fn normalize48(w: u64) -> Normal
         i += 1;
     };
     Normal { word: x, shifts: n }
+}
+
+// The single shifts that NS and ND made, by SC(12:23).
+pub fn shifts_made(b: u32) -> u32
+    requires { ⌜ b < 2 ^ 12 ⌝ }
+    ensures value { λ r. ⌜ r ≡ shiftsBy b ⌝ }
+    ensures bound { λ r. ⌜ r < 4096 ⌝ }
+{
+    if b == 2048 { 0 } else { (4096 - b) % 4096 }
 }
 
 // NS: W, and SC(12:23).

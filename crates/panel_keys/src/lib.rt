@@ -1,18 +1,19 @@
-// The reset, start and autoload keys (14.4), with their refusals.
+// The reset, start and autoload keys (14.4), with their refusals. They take no time.
 ghost use mathlib.Core.Path.{_≡_};
 ghost use mathlib.Core.Bool.{true};
 ghost use Prim.Native.Nat.{_<_};
 ghost use Rattle.registers.specs.Reg.{wordRange};
 ghost use Rattle.machine.specs.declared.Verdict.the-variants.{Accepted};
-ghost use Rattle.acceptance.specs.Accept.{judgeMachine};
+ghost use Rattle.acceptance.specs.Accept.{judgeRegisters};
 ghost use Rattle.definition_instructions.specs.Machine.{computer};
 ghost use Rattle.definition_instructions.specs.Channel.{fourLeft};
 ghost use Rattle.definition_runs.specs.Lent.{pressedOf, machineLent, keyReturned, keyHandedBack, autoloadLent};
-ghost use Rattle.definition_runs.specs.Keys.{resetKey, startRecord, startKey, pressingReset, pressingStart, autoloadRecord, autoloadKey};
-ghost use Rattle.panel_keys.specs.Key.{autoloaded};
+ghost use Rattle.definition_runs.specs.Keys.{resetKey, startControl, startKey, pressingReset, pressingStart, autoloadControl};
+ghost use Rattle.panel_keys.specs.Key.{autoloaded, autoloadPressed};
 use machine::Autoloaded;
 use machine::Control;
 use machine::Devices;
+use machine::Record;
 use machine::State;
 use machine::Verdict;
 
@@ -28,15 +29,21 @@ fn reset_key(store: &mut [u32], c: Control) -> Control
 }
 
 // The reset key.
-pub fn press_reset(store: &mut [u32], control: Control) -> State
+pub fn press_reset(store: &mut [u32], control: Record) -> State
     ensures { λ r. ⌜ pressedOf r (now (store .exit)) ≡ pressingReset (now (store .entry)) control ⌝ }
 {
     let v = acceptance::judge_machine(store, control);
     match v {
         Verdict::Accepted => {
-            let d = reset_key(store, control);
+            let c = control.registers;
+            let t = control.timer;
+            let d = reset_key(store, c);
+            let r = Record {
+                registers: d,
+                timer: t,
+            };
             State {
-                control: d,
+                control: r,
                 verdict: Verdict::Accepted,
             }
         }
@@ -48,7 +55,7 @@ pub fn press_reset(store: &mut [u32], control: Control) -> State
 }
 
 fn start_record(c: Control, a: u32) -> Control
-    ensures { λ r. ⌜ r ≡ startRecord c a ⌝ }
+    ensures { λ r. ⌜ r ≡ startControl c a ⌝ }
 {
     Control {
         ic: a / 2 * 2,
@@ -74,15 +81,21 @@ fn start_key(store: &mut [u32], c: Control) -> Control
 }
 
 // The start key.
-pub fn press_start(store: &mut [u32], control: Control) -> State
+pub fn press_start(store: &mut [u32], control: Record) -> State
     ensures { λ r. ⌜ pressedOf r (now (store .exit)) ≡ pressingStart (now (store .entry)) control ⌝ }
 {
     let v = acceptance::judge_machine(store, control);
     match v {
         Verdict::Accepted => {
-            let d = start_key(store, control);
+            let c = control.registers;
+            let t = control.timer;
+            let d = start_key(store, c);
+            let r = Record {
+                registers: d,
+                timer: t,
+            };
             State {
-                control: d,
+                control: r,
                 verdict: Verdict::Accepted,
             }
         }
@@ -93,9 +106,9 @@ pub fn press_start(store: &mut [u32], control: Control) -> State
     }
 }
 
-// The record with which Autoload Word is begun: IC := 0, and the reset state is left.
+// The control registers with which Autoload Word is begun: IC := 0, and the reset state is left.
 fn autoload_record(c: Control) -> Control
-    ensures { λ r. ⌜ r ≡ autoloadRecord c ⌝ }
+    ensures { λ r. ⌜ r ≡ autoloadControl c ⌝ }
 {
     Control {
         ic: 0,
@@ -113,14 +126,16 @@ fn autoload_record(c: Control) -> Control
 // IC := SB := 0; goto Autoload Word.
 fn autoload(
     store: &mut [u32],
-    c: Control,
+    r: Record,
     devices: Devices,
     characters: &[u8],
     typing: &[u8],
 ) -> Autoloaded
-    requires { ⌜ (judgeMachine (now store) c ≡ Accepted) × (devices .reader < wordRange) × (devices .typewriter < wordRange) × (fourLeft (now characters) ≡ true) ⌝ }
-    ensures { λ r. ⌜ keyReturned r (now (store .exit)) ≡ keyHandedBack (now (characters .entry)) (autoloaded (machineLent (now (store .entry)) c devices (now (characters .entry)) (now (typing .entry)))) ⌝ }
+    requires { ⌜ (judgeRegisters (now store) (r .registers) ≡ Accepted) × (devices .reader < wordRange) × (devices .typewriter < wordRange) × (fourLeft (now characters) ≡ true) ⌝ }
+    ensures { λ x. ⌜ keyReturned x (now (store .exit)) ≡ keyHandedBack (now (characters .entry)) (autoloaded (machineLent (now (store .entry)) r devices (now (characters .entry)) (now (typing .entry)))) ⌝ }
 {
+    let c = r.registers;
+    let t = r.timer;
     let d = autoload_record(c);
     let mut k = control_row::row_of(d);
     let mut h = channel_row::channel_of(devices, characters, typing);
@@ -128,8 +143,12 @@ fn autoload(
     let a = control_row::control_of(&k);
     let v = channel_row::devices_of(&h, characters, typing);
     let n = channel_row::taken(&h, characters, typing);
+    let x = Record {
+        registers: a,
+        timer: t,
+    };
     Autoloaded {
-        control: a,
+        control: x,
         verdict: Verdict::Accepted,
         devices: v,
         taken: n,
@@ -138,21 +157,22 @@ fn autoload(
 
 fn autoload_key(
     store: &mut [u32],
-    c: Control,
+    r: Record,
     devices: Devices,
     characters: &[u8],
     typing: &[u8],
 ) -> Autoloaded
-    requires { ⌜ (judgeMachine (now store) c ≡ Accepted) × (devices .reader < wordRange) × (devices .typewriter < wordRange) ⌝ }
-    ensures { λ r. ⌜ keyReturned r (now (store .exit)) ≡ keyHandedBack (now (characters .entry)) (record { machine = autoloadKey (machineLent (now (store .entry)) c devices (now (characters .entry)) (now (typing .entry))); verdict = Accepted }) ⌝ }
+    requires { ⌜ (judgeRegisters (now store) (r .registers) ≡ Accepted) × (devices .reader < wordRange) × (devices .typewriter < wordRange) ⌝ }
+    ensures { λ x. ⌜ keyReturned x (now (store .exit)) ≡ keyHandedBack (now (characters .entry)) (autoloadPressed (machineLent (now (store .entry)) r devices (now (characters .entry)) (now (typing .entry)))) ⌝ }
 {
+    let c = r.registers;
     if c.reset {
         if characters.len() >= 4 {
-            return autoload(store, c, devices, characters, typing);
+            return autoload(store, r, devices, characters, typing);
         }
     }
     Autoloaded {
-        control: c,
+        control: r,
         verdict: Verdict::Accepted,
         devices: devices,
         taken: 0,
@@ -162,7 +182,7 @@ fn autoload_key(
 // The autoload key: in the reset state a word of four characters goes into W0, and is executed next.
 pub fn press_autoload(
     store: &mut [u32],
-    control: Control,
+    control: Record,
     devices: Devices,
     characters: &[u8],
 ) -> Autoloaded

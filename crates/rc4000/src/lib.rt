@@ -1,7 +1,7 @@
 // The public calls. None asks anything of its caller; each contract sets the result and all that is lent for all inputs.
 ghost use mathlib.Core.Path.{_≡_};
 ghost use denote.Ref.{ptr};
-ghost use Rattle.definition_instructions.specs.Machine.{computer};
+ghost use Rattle.definition_runs.specs.Timed.{timedComputer};
 ghost use Rattle.definition_runs.specs.Lent.{runResultOf, pressedOf, returned, runLent, keyReturned, autoloadLent};
 ghost use Rattle.definition_runs.specs.Keys.{pressingReset, pressingStart};
 ghost use Rattle.run_promises.specs.Promises.{KeepsProtected, TouchesNoDevice, Counts};
@@ -11,8 +11,8 @@ ghost use Rattle.definition_tape.specs.Writing.{remarkOf, writing};
 use definition_tape::Written;
 use machine::Answer;
 use machine::Autoloaded;
-use machine::Control;
 use machine::Devices;
+use machine::Record;
 use machine::Run;
 use machine::State;
 use machine::Verdict;
@@ -20,7 +20,7 @@ use machine::Verdict;
 // A run with raised lines and a budget of cycles, the device buffer registers, the reader's characters and a buffer for typed bytes.
 pub fn run(
     store: &mut [u32],
-    control: Control,
+    control: Record,
     lines: u32,
     budget: u32,
     devices: Devices,
@@ -28,7 +28,7 @@ pub fn run(
     typing: &mut [u8],
 ) -> Run
     ensures exact { λ r. ⌜ returned r (now (store .exit)) (now (typing .exit)) ≡ runLent lines budget (now (store .entry)) control devices (now (characters .entry)) (now (typing .entry)) ⌝ }
-    ensures isolated { λ r. ⌜ KeepsProtected (computer (now (store .entry)) control) (r .answer) (computer (now (store .exit)) (r .control)) ⌝ }
+    ensures isolated { λ r. ⌜ KeepsProtected (timedComputer (now (store .entry)) control) (r .answer) (timedComputer (now (store .exit)) (r .control)) ⌝ }
     ensures untouched { λ r. ⌜ TouchesNoDevice control devices (now (typing .entry)) (returned r (now (store .exit)) (now (typing .exit))) ⌝ }
     ensures counts { λ r. ⌜ Counts budget (runResultOf r (now (store .exit))) ⌝ }
 {
@@ -54,14 +54,14 @@ pub fn run(
 }
 
 // The reset key.
-pub fn press_reset(store: &mut [u32], control: Control) -> State
+pub fn press_reset(store: &mut [u32], control: Record) -> State
     ensures { λ r. ⌜ pressedOf r (now (store .exit)) ≡ pressingReset (now (store .entry)) control ⌝ }
 {
     panel_keys::press_reset(store, control)
 }
 
 // The start key.
-pub fn press_start(store: &mut [u32], control: Control) -> State
+pub fn press_start(store: &mut [u32], control: Record) -> State
     ensures { λ r. ⌜ pressedOf r (now (store .exit)) ≡ pressingStart (now (store .entry)) control ⌝ }
 {
     panel_keys::press_start(store, control)
@@ -70,7 +70,7 @@ pub fn press_start(store: &mut [u32], control: Control) -> State
 // The autoload key: in the reset state a word of four characters goes into W0, and is executed next.
 pub fn press_autoload(
     store: &mut [u32],
-    control: Control,
+    control: Record,
     devices: Devices,
     characters: &[u8],
 ) -> Autoloaded
@@ -80,7 +80,7 @@ pub fn press_autoload(
 }
 
 // Loads a tape: cells that no block names are cleared. The control record handed back is the tape's, or on a refusal the given one.
-pub fn load(store: &mut [u32], control: Control, tape: &[u8]) -> State
+pub fn load(store: &mut [u32], control: Record, tape: &[u8]) -> State
     ensures state { λ r. ⌜ r ≡ loading (now (tape .entry)) (now (store .entry)) control .state ⌝ }
     ensures cells { λ _. ⌜ now (store .exit) ≡ loading (now (tape .entry)) (now (store .entry)) control .cells ⌝ }
 {
@@ -88,7 +88,7 @@ pub fn load(store: &mut [u32], control: Control, tape: &[u8]) -> State
 }
 
 // Lays a tape over what the store holds: cells that no block names are kept. Nothing else differs from a load.
-pub fn overlay(store: &mut [u32], control: Control, tape: &[u8]) -> State
+pub fn overlay(store: &mut [u32], control: Record, tape: &[u8]) -> State
     ensures state { λ r. ⌜ r ≡ overlaying (now (tape .entry)) (now (store .entry)) control .state ⌝ }
     ensures cells { λ _. ⌜ now (store .exit) ≡ overlaying (now (tape .entry)) (now (store .entry)) control .cells ⌝ }
 {
@@ -106,7 +106,7 @@ pub fn remark<'a>(tape: &'a [u8], cells: usize, found: &mut bool, refusal: &mut 
 }
 
 // Writes the tape of a machine into a buffer, with the remark `text` where one is given. On a refusal no byte changes.
-pub fn write(store: &[u32], control: Control, given: bool, text: &[u8], tape: &mut [u8]) -> Written
+pub fn write(store: &[u32], control: Record, given: bool, text: &[u8], tape: &mut [u8]) -> Written
     ensures answer { λ r. ⌜ r ≡ writing (now (store .entry)) control (remarkOf given (now (text .entry))) (now (tape .entry)) .answer ⌝ }
     ensures bytes { λ _. ⌜ now (tape .exit) ≡ writing (now (store .entry)) control (remarkOf given (now (text .entry))) (now (tape .entry)) .bytes ⌝ }
 {

@@ -71,3 +71,13 @@ until-ends p f I k h s (suc n) i x e j = go (p x) refl (until-ends p f I k h s n
     go : (b : Bool) → p x ≡ b → (i + 1 + n ≡ k → I (i + 1) (f x) → p (until p f n (f x)) ≡ true) → p (until p f (suc n) x) ≡ true
     go true t ih = ap p (until-stop p f (suc n) x t) ∙ t
     go false t ih = ap p (until-go p f n x t) ∙ ih (omega arith) (s i x j t)
+
+-- what each application counts one up is counted up n times at most
+pub until-most : {A : Type 0} (p : A → Bool) (f : A → A) (c : A → ℕ) → ((x : A) → c (f x) ≡ c x + 1) → (n : ℕ) (x : A) → c (until p f n x) ≤ c x + n
+unfolding until
+until-most p f c h zero x = omega arith
+until-most p f c h (suc n) x = go (p x) refl (until-most p f c h n (f x))
+  where
+    go : (b : Bool) → p x ≡ b → c (until p f n (f x)) ≤ c (f x) + n → c (until p f (suc n) x) ≤ c x + suc n
+    go true e ih = rw (until-stop p f (suc n) x e) (omega arith)
+    go false e ih = rw (until-go p f n x e) (let k = h x in omega arith)

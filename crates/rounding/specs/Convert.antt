@@ -24,6 +24,10 @@ ci w sb =
     (record { pre = 0; word = 2048; over = 0 })
     (ciEnd sb (normalizeRound (record { af = signed 24 25 w * 2 ^ 14; sc = 23 })))
 
+-- the single shifts that CI makes to normalize: none for a zero
+unfoldable pub integerShifts : ℕ → ℕ
+integerShifts w = cond (eqb w 0) 0 (afLeft (signed 24 25 w * 2 ^ 14) .shifts)
+
 -- document 01, table: CI of 0, whatever the address
 ci-0 : (sb : ℕ) → ci 0 sb ≡ record { pre = 0; word = 2048; over = 0 }
 unfolding ci

@@ -3,7 +3,7 @@ ghost use mathlib.Core.Path.{_≡_};
 ghost use Prim.Native.Nat.{_/_, _%_, _^_, _<_};
 ghost use Rattle.rounding.specs.Round.{leftShifts, normalizeOnce, normalizeRound};
 ghost use Rattle.rounding.specs.Store.{precise, storedFloating, preciseStore, roundStore};
-ghost use Rattle.rounding.specs.Convert.{ci};
+ghost use Rattle.rounding.specs.Convert.{ci, integerShifts};
 use registers::LONG_WORD_RANGE;
 
 // A fraction in AF and an exponent in SC.
@@ -127,4 +127,16 @@ pub fn convert_integer(w: u32, sb: u32) -> Pair
     let c = (b + sb % 8192) % 8192;
     let o = registers::larger((b / 4096 + b / 2048 % 2) % 2, (c / 4096 + c / 2048 % 2) % 2);
     store(x.af, c, o)
+}
+
+// The left shifts that CI made to normalize, by the exponent x % 4096 that it left.
+pub fn integer_shifts(w: u32, sb: u32, x: u64) -> u32
+    requires { ⌜ (w < 2 ^ 24) × (x ≡ ci w sb .word) ⌝ }
+    ensures value { λ r. ⌜ r ≡ integerShifts w ⌝ }
+    ensures bound { λ r. ⌜ r < 4096 ⌝ }
+{
+    if w == 0 {
+        return 0;
+    }
+    (23 + sb % 4096 + 4096 - (x % 4096) as u32) % 4096
 }

@@ -1,16 +1,18 @@
 -- How the channel goes on, and that nothing but its own bytes depends on what was typed before.
 -- Assumes nothing.
 use Prim.Native.Nat.{ℕ, _+_, _*_, _/_, _%_, _<_}
-use mathlib.Core.Path.{_≡_, refl, sym, ap, _∙_}
+use mathlib.Core.Path.{_≡_, refl, sym, ap, ap₂, _∙_}
 use mathlib.Core.Bool.{Bool, true, false, cond}
 use mathlib.Core.List.{List, [], _∷_, _++_, append-assoc, append-nil}
 use lib.Dec.{eqb, ltb}
 use lib.ListN.{length-append}
 use Rattle.machine.specs.declared.Control.{Control}
 use Rattle.machine.specs.declared.Instruction.{Instruction}
+use Rattle.machine.specs.declared.Timer.{Timer}
 use Rattle.machine.specs.declared.Fault.the-variants.{Absent, Privileged, Jump}
 use Rattle.machine.specs.declared.Kind.the-variants.{Line}
 use Rattle.machine.specs.Store.{word, absent, violation}
+use Rattle.machine.specs.Format.{instructionFields}
 use Rattle.machine.specs.Fields.{inTask, withIC}
 use Rattle.integer.specs.Sums.{sum24}
 use Rattle.definition_instructions.specs.Machine.{Computer, Channel, Machine, machine, computerOf, connected, Effect, ok, fault, bind, lifted, resetSystem}
@@ -19,8 +21,10 @@ use Rattle.definition_instructions.specs.MicroOps.{DeviceOp, monitor, senseDevi
 use Rattle.definition_instructions.specs.Meaning.{Peripheral, IO, AW, deviceMeaning}
 use Rattle.definition_instructions.specs.Codes.{Mnemonic, internal, device, codes, lookup, execute, executeDevice, executeMnemonic, executeCode}
 use Rattle.definition_instructions.proofs.DeviceLaws.{by-cond}
-use Rattle.definition_runs.specs.GenericRun.{CycleResult, entry}
-use Rattle.definition_runs.specs.Cycle.{lineOf, indirectAbsent, effectiveAddress, executeInstruction, decode, fetch, concluded, cycle}
+use Rattle.definition_times.specs.Times.{modificationTime, indirectTime, deviceTime, mnemonicTime, executionTime}
+use Rattle.definition_runs.specs.GenericRun.{CycleResult, instruction, entry, cycleMapped}
+use Rattle.definition_runs.specs.Timed.{TimedMachine, timedMachine, untimed, instructionTime, timeOf, cycleTime, cycleEnded, timedCycle}
+use Rattle.definition_runs.specs.Cycle.{lineOf, fetched, address, indirectAbsent, effectiveAddress, executeInstruction, decode, fetch, concluded, cycle}
 use Rattle.run_promises.specs.Promises.{GoesOn}
 use Rattle.run_promises.proofs.CallLaws.{carriedResult}
 use Rattle.definition_runs.proofs.CycleLaws.{entered, lined}
@@ -179,3 +183,42 @@ cycle-alike p m =
     let b = ltb (lineOf (m .control)) 24 in
     branch b _ _ _ _ refl (ap concluded (fetch-alike p (m .cells) (m .control) (m .channel)) ∙ concluded-alike p (fetch (m .cells) (m .control) (m .channel)))
     ∙ carried-cond p b (entry (Line (lineOf (m .control) * 2)) (entered (lineOf (m .control) * 2) (lined m))) (concluded (fetch (m .cells) (m .control) (m .channel)))
+
+-- ---- with the timer: bytes typed before enter into no time
+
+mnemonic-time : (p : List ℕ) (x : Mnemonic) (w sb : ℕ) (m : Machine) → mnemonicTime x w sb (typedBefore p m) ≡ mnemonicTime x w sb m
+unfolding deviceTime disconnected
+mnemonic-time p (internal o) w sb m = refl
+mnemonic-time p (device IO) w sb m = refl
+mnemonic-time p (device AW) w sb m = refl
+
+instruction-time : (p : List ℕ) (m : Machine) → instructionTime (typedBefore p m) ≡ instructionTime m
+unfolding instructionTime executionTime
+instruction-time p m =
+    let i = instructionFields (fetched (m .cells) (m .control .ic)) in
+    let sb = effectiveAddress (m .cells) (i .m) (address (m .cells) (m .control) i) in
+    ap (λ (n : ℕ). modificationTime (i .m) (i .x) + (indirectTime (i .code) (i .m) + n)) (mnemonic-time p (lookup (i .code) codes) (i .w) sb m)
+
+time-carried : (p : List ℕ) (m : Machine) (x : CycleResult Machine) → timeOf (typedBefore p m) (carriedResult (typedBefore p) x) ≡ timeOf m x
+time-carried p m (instruction n) = instruction-time p m
+time-carried p m (entry k n) = refl
+
+cycle-time : (p : List ℕ) (m : Machine) → cycleTime (typedBefore p m) ≡ cycleTime m
+unfolding cycleTime
+cycle-time p m = ap (timeOf (typedBefore p m)) (cycle-alike p m) ∙ time-carried p m (cycle m)
+
+-- the timed machine m with the bytes p typed earlier
+abbrev pub timedBefore : List ℕ → TimedMachine → TimedMachine
+timedBefore p m = timedMachine (m .cells) (m .control) (earlier p (m .channel))
+
+mapped-carried : (p : List ℕ) (t : ℕ) (r : Timer) (x : CycleResult Machine)
+    → cycleMapped (cycleEnded t r) (carriedResult (typedBefore p) x) ≡ carriedResult (timedBefore p) (cycleMapped (cycleEnded t r) x)
+unfolding cycleEnded
+mapped-carried p t r (instruction n) = refl
+mapped-carried p t r (entry k n) = refl
+
+pub timed-alike : (p : List ℕ) (m : TimedMachine) → timedCycle (timedBefore p m) ≡ carriedResult (timedBefore p) (timedCycle m)
+unfolding timedCycle
+timed-alike p m =
+    ap₂ (λ (t : ℕ) (x : CycleResult Machine). cycleMapped (cycleEnded t (m .control .timer)) x) (cycle-time p (untimed m)) (cycle-alike p (untimed m))
+    ∙ mapped-carried p (cycleTime (untimed m)) (m .control .timer) (cycle (untimed m))

@@ -15,8 +15,7 @@ use Rattle.definition_instructions.specs.Codes.{execute, executeDevice, execute
 use Rattle.definition_instructions.specs.Protected.{EqualProtected}
 use Rattle.definition_instructions.proofs.Isolation.{equal-trans, equal-fewer, equal-put, equal-control, Isolated, isolated-control, allowed-cell, isolated-operation}
 use Rattle.definition_instructions.proofs.DeviceLaws.{task-device, ValidComputer}
-use Rattle.definition_runs.specs.Cycle.{lineCleared, entryRecord, enter, fetchRecord, fetch, cycle}
-use Rattle.definition_runs.specs.Run.{inReset}
+use Rattle.definition_runs.specs.Cycle.{lineCleared, entryControl, enter, fetchControl, fetch, cycle}
 use Rattle.definition_runs.proofs.RunLaws.{Meets}
 use Rattle.definition_runs.proofs.CycleLaws.{code-meets, stepped, begun, fetch-meets, entered, lined, cycle-meets}
 use Rattle.definition_runs.proofs.CycleValid.{valid-lined, valid-fetch}
@@ -37,7 +36,7 @@ two-words v i n c p q =
     (equal-trans (equal-put 12 first 5 i (λ j l f. omega arith)) (equal-control 12 (computer (putWord (first .cells) 5 i) (n .control)) c p q))
 
 enter-entry : {m : Computer} (v : ℕ) (n : Computer) → Isolated m n → Entry m (enter v (n .cells) (n .control))
-unfolding enter entryRecord
+unfolding enter entryControl
 enter-entry v n h =
     record {
       equal = equal-trans (equal-fewer 12 (omega arith) (h .equal)) (two-words v _ n _ refl refl);
@@ -66,7 +65,7 @@ unfolding withIC
 confined-stepped n h = confined-control n (withIC (n .control) (sum24 (n .control .ic) 2)) refl refl refl h
 
 confined-begun : {m : Machine} (n : Machine) → violation (n .cells) (n .control) (n .control .ic / 2) ≡ false → Confined m n → Confined m (begun n)
-unfolding fetchRecord
+unfolding fetchControl
 confined-begun n e h = confined-control n _ refl refl (allowed-cell (computerOf n) (n .control .ic / 2) (h .isolated .task) e ∙ sym (h .isolated .task)) h
 
 -- Test Mode: IO and AW reach nothing
@@ -104,13 +103,13 @@ pub record Task (m n : Machine) : Type 0 where
   pub confined : Confined m n
   pub valid : ValidComputer n
 
-entered-outside : {m : Machine} (v : ℕ) (n : Machine) → Task m n → inReset (entered v n) ≡ false
-unfolding enter entryRecord stateFits
+entered-outside : {m : Machine} (v : ℕ) (n : Machine) → Task m n → entered v n .control .reset ≡ false
+unfolding enter entryControl stateFits
 entered-outside v n h = not-reset (n .control .reset) (n .control .monitor) (n .control .enabled) (h .confined .isolated .task) (h .valid .state)
 
-pub cycle-outside : (m n : Machine) → inReset n ≡ false → Task m n → Meets (Task m) (λ k n. inReset n ≡ false) (cycle n)
+pub cycle-outside : (m n : Machine) → n .control .reset ≡ false → Task m n → Meets (Task m) (λ k n. n .control .reset ≡ false) (cycle n)
 cycle-outside m n e h =
-    cycle-meets (Task m) (λ k n. inReset n ≡ false) n
+    cycle-meets (Task m) (λ k n. n .control .reset ≡ false) n
     (record { confined = confined-fetch n (h .confined); valid = valid-fetch n e (h .valid) })
     (λ f k q. entered-outside 0 k)
     (λ l. entered-outside _ (lined n) (record { confined = confined-lined n (h .confined); valid = valid-lined n (h .valid) }))

@@ -8,36 +8,37 @@ use lib.Seq.{take-append-seam, drop-append-seam, drop-at}
 use Rattle.machine.specs.declared.Outcome.the-variants.{Spent, Interrupted, Reset}
 use Rattle.machine.specs.declared.Answer.{Answer}
 use Rattle.machine.specs.declared.Answer.the-variants.{Refused, Ended}
-use Rattle.definition_instructions.specs.Machine.{Channel, Machine, computerOf}
+use Rattle.definition_instructions.specs.Machine.{Channel}
 use Rattle.definition_instructions.specs.Channel.{registersOf}
 use Rattle.definition_runs.specs.GenericRun.{RunResult, added, thenBy, thenRun, total, calls}
-use Rattle.definition_runs.specs.Cycle.{cycle}
+use Rattle.definition_runs.specs.Timed.{TimedMachine, timedComputerOf, timedCycle}
 use Rattle.definition_runs.specs.Run.{inReset, judgeOf, devicesFitOf, joined, runMachine, runList}
 use Rattle.definition_runs.specs.Lent.{machineLent, takenOf, Returned, handedBack, runLent}
-use Rattle.run_promises.specs.Promises.{EqualEntries}
+use Rattle.run_promises.specs.Promises.{SameTimer, EqualEntries}
 use Rattle.run_promises.specs.Several.{Lent, computerReturned, TwoCalls, lentLater, CallsMade, followedBy, summed, OneCall}
 use Rattle.run_promises.proofs.CallLaws.{carried, calls-carried}
-use Rattle.run_promises.proofs.ChannelLaws.{typedBefore, cycle-alike}
+use Rattle.run_promises.proofs.ChannelLaws.{timedBefore, timed-alike}
 use Rattle.run_promises.proofs.Promises.{two-runs, budget-list, channel-goes-on}
 
 -- the machine at the beginning of a call
-abbrev begins : Lent → Machine
+abbrev begins : Lent → TimedMachine
 begins y = machineLent (y .cells) (y .control) (y .devices) (y .characters) (y .typing)
 
 pub two-calls : TwoCalls
 unfolding runLent handedBack
 two-calls y z x w l₁ b₁ l₂ b₂ k₁ k₂ e f t u h g p q =
-    subst (λ r. EqualEntries (computerReturned r) (computerReturned w)) (sym e)
-    (subst (λ r. EqualEntries (computerOf (runMachine l₁ b₁ (begins y) .machine)) (computerReturned r)) (sym f)
-    (two-runs (begins y) (begins z) l₁ b₁ l₂ b₂ k₁ k₂ t u h g (sym (ap (λ r. r .run .answer) e) ∙ p) (sym (ap (λ r. r .run .answer) f) ∙ q)))
+    let two = two-runs (begins y) (begins z) l₁ b₁ l₂ b₂ k₁ k₂ t u h g (sym (ap (λ r. r .run .answer) e) ∙ p) (sym (ap (λ r. r .run .answer) f) ∙ q) in
+    subst (λ r. EqualEntries (computerReturned r) (computerReturned w) × (SameTimer (y .control .timer) (z .control .timer) → SameTimer (r .run .control .timer) (w .run .control .timer))) (sym e)
+    (subst (λ r. EqualEntries (timedComputerOf (runMachine l₁ b₁ (begins y) .machine)) (computerReturned r)
+    × (SameTimer (y .control .timer) (z .control .timer) → SameTimer (runMachine l₁ b₁ (begins y) .machine .control .timer) (r .run .control .timer))) (sym f) two)
 
-not-spent : (a : Answer) (x : RunResult Machine) (next : Machine → RunResult Machine) → (a ≡ Ended Spent → ⊥) → thenBy a x next ≡ x
+not-spent : (a : Answer) (x : RunResult TimedMachine) (next : TimedMachine → RunResult TimedMachine) → (a ≡ Ended Spent → ⊥) → thenBy a x next ≡ x
 not-spent (Refused q) x next h = refl
 not-spent (Ended Spent) x next h = absurd (h refl)
 not-spent (Ended (Interrupted k)) x next h = refl
 not-spent (Ended Reset) x next h = refl
 
-spent : (a : Answer) (x : RunResult Machine) (next : Machine → RunResult Machine) → a ≡ Ended Spent → thenBy a x next ≡ added x (next (x .machine))
+spent : (a : Answer) (x : RunResult TimedMachine) (next : TimedMachine → RunResult TimedMachine) → a ≡ Ended Spent → thenBy a x next ≡ added x (next (x .machine))
 spent a x next h = rw h
 
 -- ---- a later call goes on where the one before it ended
@@ -50,7 +51,7 @@ left-over cs h ts e =
 
 -- the machine of the later call is the one that was left, but for the bytes typed before
 goes-on-from : (l b : ℕ) (y : Lent) → let r = runMachine l b (begins y) in
-    typedBefore (r .machine .channel .typed) (begins (lentLater y (handedBack (y .characters) r))) ≡ r .machine
+    timedBefore (r .machine .channel .typed) (begins (lentLater y (handedBack (y .characters) r))) ≡ r .machine
 unfolding handedBack registersOf
 goes-on-from l b y =
     let h = runMachine l b (begins y) .machine .channel in
@@ -58,18 +59,18 @@ goes-on-from l b y =
     rw (left-over (y .characters) h (on .taken) (on .characters), append-nil (h .typed), drop-append-seam (h .typed) (h .space))
 
 -- bytes typed before alter nothing else of a list of calls
-list-after : (p : List ℕ) (l b : ℕ) (bs : List ℕ) (m : Machine) → runList l b bs (typedBefore p m) ≡ carried (typedBefore p) (runList l b bs m)
+list-after : (p : List ℕ) (l b : ℕ) (bs : List ℕ) (m : TimedMachine) → runList l b bs (timedBefore p m) ≡ carried (timedBefore p) (runList l b bs m)
 unfolding runList
 list-after p l b bs m =
-    calls-carried (typedBefore p) inReset cycle (λ n. refl) (cycle-alike p) judgeOf devicesFitOf joined (λ n. refl) (λ n. refl) (λ k n. refl) l b bs m
+    calls-carried (timedBefore p) inReset timedCycle (λ n. refl) (timed-alike p) judgeOf devicesFitOf joined (λ n. refl) (λ n. refl) (λ k n. refl) l b bs m
 
 -- no more characters are left than were lent
 fewer : (cs ts ds : List ℕ) → cs ≡ ts ++ ds → length ds ≤ length cs
 fewer cs ts ds e = let whole = ap length e ∙ length-append ts ds in omega arith
 
 -- what is handed back of r, then of s
-handed-on : (cs : List ℕ) (r s : RunResult Machine) → length (s .machine .channel .characters) ≤ length (r .machine .channel .characters) → length (r .machine .channel .characters) ≤ length cs
-    → followedBy (handedBack cs r) (handedBack (r .machine .channel .characters) s) ≡ handedBack cs (added r (carried (typedBefore (r .machine .channel .typed)) s))
+handed-on : (cs : List ℕ) (r s : RunResult TimedMachine) → length (s .machine .channel .characters) ≤ length (r .machine .channel .characters) → length (r .machine .channel .characters) ≤ length cs
+    → followedBy (handedBack cs r) (handedBack (r .machine .channel .characters) s) ≡ handedBack cs (added r (carried (timedBefore (r .machine .channel .typed)) s))
 unfolding handedBack registersOf
 handed-on cs r s k l =
     let g = r .machine .channel in
@@ -94,7 +95,7 @@ made-next l b c cs y z small s e =
     let kept : length ends ≤ length (g .characters) =
     subst (λ q. length ends ≤ length q) left (fewer (drop (takenOf (y .characters) g) (y .characters)) (later .taken) ends (later .characters)) in
     let least : length (runList 0 c cs next .machine .channel .characters) ≤ length (g .characters) =
-    subst (λ (q : RunResult Machine). length (q .machine .channel .characters) ≤ length (g .characters)) (sym list) kept in
+    subst (λ (q : RunResult TimedMachine). length (q .machine .channel .characters) ≤ length (g .characters)) (sym list) kept in
     ap (followedBy x) (e ∙ ap (λ q. handedBack q (runList 0 c cs next)) left)
     ∙ handed-on (y .characters) r (runList 0 c cs next) least (fewer (y .characters) (on .taken) (g .characters) (on .characters))
     ∙ ap (λ q. handedBack (y .characters) (added r q)) (sym (list-after (g .typed) 0 c cs next) ∙ ap (runList 0 c cs) (goes-on-from l b y))

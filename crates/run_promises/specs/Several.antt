@@ -6,22 +6,22 @@ use mathlib.Core.Path.{_≡_}
 use mathlib.Core.Bool.{true}
 use mathlib.Core.List.{List, [], _∷_, _++_}
 use lib.ListN.{take, drop}
-use Rattle.machine.specs.declared.Control.{Control}
+use Rattle.machine.specs.declared.Record.{Record}
 use Rattle.machine.specs.declared.Devices.{Devices}
 use Rattle.machine.specs.declared.Kind.{Kind}
 use Rattle.machine.specs.declared.Outcome.the-variants.{Spent, Interrupted}
 use Rattle.machine.specs.declared.Answer.the-variants.{Ended}
 use Rattle.machine.specs.Records.{interruptionProgram}
-use Rattle.definition_instructions.specs.Machine.{Computer, computer}
 use Rattle.definition_instructions.specs.Protected.{forbiddenIn, InTaskMode, EqualProtected}
 use Rattle.definition_runs.specs.GenericRun.{total}
+use Rattle.definition_runs.specs.Timed.{TimedComputer, timedComputer}
 use Rattle.definition_runs.specs.Lent.{Returned, runLent}
-use Rattle.run_promises.specs.Promises.{EqualEntries}
+use Rattle.run_promises.specs.Promises.{computerIn, SameTimer, EqualEntries}
 
 -- what is lent to a call
 pub record Lent : Type 0 where
   pub cells : List ℕ
-  pub control : Control
+  pub control : Record
   pub devices : Devices
   pub characters : List ℕ
   pub typing : List ℕ
@@ -30,19 +30,20 @@ pub record Lent : Type 0 where
 abbrev pub Called : ℕ → ℕ → Lent → Returned → Type 0
 Called lines budget y x = x ≡ runLent lines budget (y .cells) (y .control) (y .devices) (y .characters) (y .typing)
 
-abbrev pub computerLent : Lent → Computer
-computerLent y = computer (y .cells) (y .control)
+abbrev pub computerLent : Lent → TimedComputer
+computerLent y = timedComputer (y .cells) (y .control)
 
-abbrev pub computerReturned : Returned → Computer
-computerReturned x = computer (x .cells) (x .run .control)
+abbrev pub computerReturned : Returned → TimedComputer
+computerReturned x = timedComputer (x .cells) (x .run .control)
 
 -- two calls begun in task mode with equal protected parts, word 12 forbidden, that both end interrupted
 abbrev pub TwoCalls : Type 0
 TwoCalls =
     (y z : Lent) (x w : Returned) (lines₁ budget₁ lines₂ budget₂ : ℕ) (k₁ k₂ : Kind) → Called lines₁ budget₁ y x → Called lines₂ budget₂ z w
-    → InTaskMode (computerLent y) → InTaskMode (computerLent z) → EqualProtected 8 (computerLent y) (computerLent z)
-    → forbiddenIn (computerLent y) (interruptionProgram / 2) ≡ true
-    → x .run .answer ≡ Ended (Interrupted k₁) → w .run .answer ≡ Ended (Interrupted k₂) → EqualEntries (computerReturned x) (computerReturned w)
+    → InTaskMode (computerIn (computerLent y)) → InTaskMode (computerIn (computerLent z)) → EqualProtected 8 (computerIn (computerLent y)) (computerIn (computerLent z))
+    → forbiddenIn (computerIn (computerLent y)) (interruptionProgram / 2) ≡ true
+    → x .run .answer ≡ Ended (Interrupted k₁) → w .run .answer ≡ Ended (Interrupted k₂)
+    → EqualEntries (computerReturned x) (computerReturned w) × (SameTimer (y .control .timer) (z .control .timer) → SameTimer (x .run .control .timer) (w .run .control .timer))
 
 -- what a later call is lent: store, control record and registers as handed back, the characters not taken and the typing space not used
 abbrev pub lentLater : Lent → Returned → Lent

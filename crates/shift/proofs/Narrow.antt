@@ -1,12 +1,12 @@
 -- A register of 24 bits is shifted in one of 48: AS at its left, LS at its right. Assumes nothing.
 use mathlib.Core.Path.{_≡_, refl, ap, ap₂}
 use mathlib.Core.Bool.{Bool, true, false, cond}
-use Prim.Native.Nat.{ℕ, zero, suc, _-_, _*_, _/_, _%_, _^_, _<_}
+use Prim.Native.Nat.{ℕ, zero, suc, _*_, _/_, _%_, _^_, _<_}
 use native.Mathlib.Omega.{arith}
 use lib.Dec.{ltb}
 use Rattle.registers.specs.Reg.{asr, shl, iter}
 use Rattle.shift.specs.declared.Shifted.{Shifted}
-use Rattle.shift.specs.Shift.{places, leftStep, shr, arithmetic, logical}
+use Rattle.shift.specs.Shift.{shiftsMade, leftStep, shr, arithmetic, logical}
 
 -- two loops of as many steps keep what their steps keep
 iter-keep : {A B : Type 0} (R : A → B → Type 0) (f : A → A) (g : B → B) → ((x : A) (y : B) → R x y → R (f x) (g y)) → (n : ℕ) (x : A) (y : B) → R x y → R (iter f n x) (iter g n y)
@@ -38,8 +38,8 @@ left-step x y e =
 pub at-left : (sb w : ℕ) → upper (arithmetic 48 sb (w * 2 ^ 24)) ≡ arithmetic 24 sb w
 unfolding arithmetic
 at-left sb w =
-    let l = iter-keep AtLeft (leftStep 48) (leftStep 24) left-step (places sb) (record { word = w * 2 ^ 24; over = 0 }) (record { word = w; over = 0 }) (refl, refl) in
-    let r = iter-keep (λ (x y : ℕ). x / 2 ^ 24 ≡ y) (asr 48) (asr 24) (λ x y e. omega arith) (places (2 ^ 24 - sb)) (w * 2 ^ 24) w (omega arith) in
+    let l = iter-keep AtLeft (leftStep 48) (leftStep 24) left-step (shiftsMade sb) (record { word = w * 2 ^ 24; over = 0 }) (record { word = w; over = 0 }) (refl, refl) in
+    let r = iter-keep (λ (x y : ℕ). x / 2 ^ 24 ≡ y) (asr 48) (asr 24) (λ x y e. omega arith) (shiftsMade sb) (w * 2 ^ 24) w (omega arith) in
     let pair : ℕ → ℕ → Shifted = λ k o. record { word = k; over = o } in
     cond-same (ltb sb (2 ^ 23)) upper _ _ _ _ (ap₂ pair (omega (arith, l)) (l .1)) (ap (λ k. pair k 0) r)
 
@@ -47,6 +47,6 @@ at-left sb w =
 pub at-right : (sb w : ℕ) → w < 2 ^ 24 → logical 48 sb w % 2 ^ 24 ≡ logical 24 sb w
 unfolding logical
 at-right sb w h =
-    let l = iter-keep (λ (x y : ℕ). x % 2 ^ 24 ≡ y) (shl 48) (shl 24) (λ x y e. omega arith) (places sb) w w (omega arith) in
-    let r = iter-keep (λ (x y : ℕ). (x ≡ y) × (y < 2 ^ 24)) shr shr (λ x y e. omega (arith, e)) (places (2 ^ 24 - sb)) w w (refl, h) in
+    let l = iter-keep (λ (x y : ℕ). x % 2 ^ 24 ≡ y) (shl 48) (shl 24) (λ x y e. omega arith) (shiftsMade sb) w w (omega arith) in
+    let r = iter-keep (λ (x y : ℕ). (x ≡ y) × (y < 2 ^ 24)) shr shr (λ x y e. omega (arith, e)) (shiftsMade sb) w w (refl, h) in
     cond-same (ltb sb (2 ^ 23)) (λ (x : ℕ). x % 2 ^ 24) _ _ _ _ l (omega (arith, r))

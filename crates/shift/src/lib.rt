@@ -2,7 +2,7 @@
 ghost use mathlib.Core.Path.{_≡_};
 ghost use Prim.Native.Nat.{_^_, _<_};
 ghost use Rattle.registers.specs.Reg.{asr, shl, iter};
-ghost use Rattle.shift.specs.Shift.{places, leftStep, arithmetic, logical, shr};
+ghost use Rattle.shift.specs.Shift.{places, leftStep, arithmetic, logical, shr, shiftsMade};
 use registers::BIT_0;
 use registers::LONG_WORD_RANGE;
 use registers::WORD_RANGE;
@@ -18,6 +18,18 @@ fn count(m: u32) -> u32
     ensures { λ r. ⌜ (r ≡ places m) × (r < 64) ⌝ }
 {
     if m < 64 { m } else { 48 }
+}
+
+// The single shifts that AS, AD, LS and LD make.
+pub fn shifts(sb: u32) -> u32
+    requires { ⌜ sb < 2 ^ 24 ⌝ }
+    ensures { λ r. ⌜ (r ≡ shiftsMade sb) × (r < 64) ⌝ }
+{
+    if sb < BIT_0 {
+        count(sb)
+    } else {
+        count(WORD_RANGE - sb)
+    }
 }
 
 fn left_step48(x: Shifted) -> Shifted

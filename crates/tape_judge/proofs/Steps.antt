@@ -15,7 +15,7 @@ use Rattle.machine.specs.declared.Verdict.the-variants.{Accepted, Rejected}
 use Rattle.acceptance.specs.Accept.{cellsFit}
 use Rattle.definition_tape.specs.Layout.{numberAt, lengthOf, kindOf, payloadOf, restOf, recordsOf, firstCell, cellCount, cellsFrom, blockCells}
 use Rattle.definition_tape.specs.Judge.{kindKnown, inOrder, lengthFits, judgeBlock, judgePayload, judgeRecord, names, timesNamed, unnamedCells, judgeAfter, judgeRecords}
-use Rattle.definition_tape.proofs.Records.{length-payload, records-more}
+use Rattle.definition_tape.proofs.Records.{length-payload}
 use Rattle.definition_tape.proofs.Named.{names-cell, cell-named, unnamed-true, unnamed-back, FirstNamed}
 use Rattle.tape_records.proofs.Lent.{tail}
 use Rattle.definition_tape.proofs.Judged.{Good, good, block-payload, no-records, a-record}

@@ -1,4 +1,4 @@
-// The judge of a load tape (document 01, "Load tape"; document 02, E4).
+// The judge of a load tape (document 01, "Load tape"; document 02, E4 and E6).
 ghost use mathlib.Core.Path.{_≡_};
 ghost use mathlib.Core.Bool.{true, false};
 ghost use mathlib.Core.List.{[]};
@@ -17,6 +17,7 @@ use tape_records::number_at;
 use tape_records::payload;
 use tape_records::record_kind;
 use tape_records::record_length;
+use tape_records::timer_of;
 
 // ---- the judge's tests on one record
 
@@ -46,7 +47,10 @@ fn length_fits(k: u32, l: usize) -> bool
         return 8 <= l;
     }
     if k == 2 {
-        return l == 20;
+        if l == 20 {
+            return true;
+        }
+        return l == 33;
     }
     if k == 3 {
         return l == 0;
@@ -103,12 +107,17 @@ fn control_good(p: &[u8]) -> bool
     acceptance::control_fits(c)
 }
 
+// 3, then 18.
 fn judge_control(p: &[u8]) -> Verdict
     requires { ⌜ 20 ≤ length (now p) ⌝ }
     ensures { λ r. ⌜ r ≡ judgeControl (now (p .entry)) ⌝ }
 {
     if !control_good(p) {
         return Verdict::Rejected(Refusal::ControlField);
+    }
+    let t = timer_of(p);
+    if !acceptance::timer_fits(t) {
+        return Verdict::Rejected(Refusal::TimerField);
     }
     Verdict::Accepted
 }

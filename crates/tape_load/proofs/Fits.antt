@@ -1,6 +1,6 @@
 -- The records of an accepted tape are as the loader relies on: each block lies within the store, the control record comes, then only the end.
 -- Assumes nothing.
-use Prim.Native.Nat.{ℕ, _<_}
+use Prim.Native.Nat.{ℕ, _≤_, _<_}
 use mathlib.Core.Path.{_≡_, refl, _∙_}
 use mathlib.Core.Bool.{Bool, true, false}
 use mathlib.Core.List.{List, [], _∷_}
@@ -14,7 +14,7 @@ use Rattle.definition_tape.specs.Judge.{inOrder, judgeTape}
 use Rattle.definition_tape.specs.Load.{loadRecord, loadRecords}
 use Rattle.definition_tape.proofs.Records.{length-rest}
 use Rattle.definition_tape.proofs.Loads.{load-more, load-none}
-use Rattle.definition_tape.proofs.Judged.{Good, Judged, last, more, block-length, block-payload, control-length, tape-judged, no-end}
+use Rattle.definition_tape.proofs.Judged.{Good, Judged, last, more, block-length, block-payload, control-least, tape-judged, no-end}
 use Rattle.tape_load.specs.Fits.{RecordFits}
 
 record-fits : {n : ℕ} {after u : Bool} {t : List ℕ} → Good n after u t → RecordFits n t
@@ -54,11 +54,11 @@ ahead-on n t a o = record { earlier = t ∷ a .earlier; judged = rw (ne-eqb (kin
 
 -- ---- the control record
 
-judged-control : {n : ℕ} {after : Bool} {earlier : List (List ℕ)} {t : List ℕ} → Judged n after earlier t → kindOf t ≡ 2 → lengthOf t ≡ 20
-judged-control {n} {after} {earlier} {t} (last g k h) e = control-length (lengthOf t) (rw e at (g .size))
-judged-control {n} {after} {earlier} {t} (more g k j) e = control-length (lengthOf t) (rw e at (g .size))
+judged-control : {n : ℕ} {after : Bool} {earlier : List (List ℕ)} {t : List ℕ} → Judged n after earlier t → kindOf t ≡ 2 → 20 ≤ lengthOf t
+judged-control {n} {after} {earlier} {t} (last g k h) e = control-least (lengthOf t) (rw e at (g .size))
+judged-control {n} {after} {earlier} {t} (more g k j) e = control-least (lengthOf t) (rw e at (g .size))
 
-pub ahead-control : (n : ℕ) (t : List ℕ) → Ahead n t → kindOf t ≡ 2 → lengthOf t ≡ 20
+pub ahead-control : (n : ℕ) (t : List ℕ) → Ahead n t → kindOf t ≡ 2 → 20 ≤ lengthOf t
 ahead-control n t a e = judged-control (a .judged) e
 
 pub passed-by : (s t : List ℕ) → (kindOf t ≡ 1 → ⊥) → loadRecord s t ≡ s

@@ -7,12 +7,12 @@ use native.Mathlib.Omega.{arith}
 use borrow.Author.Tests.{eq-eqb}
 use lib.ListN.{length, take, drop, getD, set, replicate, length-take, length-drop, drop-of-length-le}
 use lib.Seq.{take-suc, drop-cons, drop-drop, set-at, append-snoc, take-all}
-use Rattle.machine.specs.declared.Control.{Control}
+use Rattle.machine.specs.declared.Record.{Record}
 use Rattle.machine.specs.declared.Refusal.{Refusal}
 use Rattle.machine.specs.declared.State.{State}
 use Rattle.machine.specs.declared.Verdict.{Verdict}
 use Rattle.machine.specs.declared.Verdict.the-variants.{Accepted, Rejected}
-use Rattle.definition_tape.specs.Layout.{lengthOf, kindOf, payloadOf, restOf, recordsOf, firstOf, firstCell, cellCount, blockCells, controlOf}
+use Rattle.definition_tape.specs.Layout.{lengthOf, kindOf, payloadOf, restOf, recordsOf, firstOf, firstCell, cellCount, blockCells, controlRecordOf}
 use Rattle.definition_tape.specs.Load.{pasted, storedBlock, loadRecord, loadRecords, tapeCells, loadedControl, cleared, loadedBy}
 use Rattle.definition_tape.proofs.Records.{length-payload}
 use Rattle.tape_records.proofs.Lent.{tail, length-tail}
@@ -111,15 +111,15 @@ module _ (t : List ℕ) (at : ℕ) (h : ControlAt t at) where
   pub control-size : (p : List ℕ) → p ≡ payloadOf (take (length t - at) (drop at t)) → 20 ≤ length p
   control-size p e = rw (e, tail at t) (omega (arith, length-payload (drop at t) (h .whole), h .size))
 
-  pub control-read : (p : List ℕ) → p ≡ payloadOf (take (length t - at) (drop at t)) → controlOf p ≡ loadedControl t
+  pub control-read : (p : List ℕ) → p ≡ payloadOf (take (length t - at) (drop at t)) → controlRecordOf p ≡ loadedControl t
   unfolding loadedControl
   control-read p e = rw (e, tail at t, h .first)
 
 -- ---- the ways out: t into a store of the cells s, over those of u
-pub laid : (t u s s′ : List ℕ) (c : Control) (v : Verdict) (x : State) → v ≡ Accepted → x ≡ record { control = loadedControl t; verdict = Accepted } → s′ ≡ tapeCells u t
+pub laid : (t u s s′ : List ℕ) (c : Record) (v : Verdict) (x : State) → v ≡ Accepted → x ≡ record { control = loadedControl t; verdict = Accepted } → s′ ≡ tapeCells u t
     → (x ≡ loadedBy v t u s c .state) × (s′ ≡ loadedBy v t u s c .cells)
 laid t u s s′ c v x a e f = rw a (e, f)
 
-pub not-laid : (t u s : List ℕ) (c : Control) (v : Verdict) (r : Refusal) → v ≡ Rejected r
+pub not-laid : (t u s : List ℕ) (c : Record) (v : Verdict) (r : Refusal) → v ≡ Rejected r
     → (record { control = c; verdict = Rejected r } ≡ loadedBy v t u s c .state) × (s ≡ loadedBy v t u s c .cells)
 not-laid t u s c v r a = rw a (refl, refl)

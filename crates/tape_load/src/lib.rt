@@ -1,4 +1,4 @@
-// Load and overlay (document 01, "Load tape"; document 02, E5): the whole tape is judged before a cell changes.
+// Load and overlay (document 01, "Load tape"; document 02, E5 and E6): the whole tape is judged before a cell changes.
 ghost use mathlib.Core.Path.{_≡_};
 ghost use Prim.Native.Nat.{_+_, _*_, _≤_};
 ghost use lib.ListN.{length};
@@ -7,14 +7,14 @@ ghost use Rattle.machine.specs.declared.Verdict.the-variants.{Accepted};
 ghost use Rattle.definition_tape.specs.Judge.{judgeTape};
 ghost use Rattle.definition_tape.specs.Load.{pasted, storedBlock, loadRecord, tapeCells, loadedControl, judgeLoad, cleared, loading, overlaying};
 ghost use Rattle.tape_load.specs.Fits.{RecordFits, ControlAt};
-use machine::Control;
+use machine::Record;
 use machine::State;
 use machine::Verdict;
-use tape_records::control_of;
 use tape_records::number_at;
 use tape_records::payload;
 use tape_records::record_kind;
 use tape_records::record_length;
+use tape_records::record_of;
 
 // The k cells of a block's payload, written over the first k of dst.
 fn copy_cells(dst: &mut [u32], p: &[u8], k: usize)
@@ -84,9 +84,9 @@ fn lay(store: &mut [u32], tape: &[u8]) -> State
 {
     let at = load_blocks(store, tape);
     let p = payload(&tape[at..]);
-    let c = control_of(p);
+    let r = record_of(p);
     State {
-        control: c,
+        control: r,
         verdict: Verdict::Accepted,
     }
 }
@@ -103,7 +103,7 @@ pub fn clear(store: &mut [u32])
 }
 
 // Loads a tape: cells that no block names are cleared. On a refusal nothing changes, and the given control record comes back.
-pub fn load(store: &mut [u32], control: Control, tape: &[u8]) -> State
+pub fn load(store: &mut [u32], control: Record, tape: &[u8]) -> State
     ensures state { λ r. ⌜ r ≡ loading (now (tape .entry)) (now (store .entry)) control .state ⌝ }
     ensures cells { λ _. ⌜ now (store .exit) ≡ loading (now (tape .entry)) (now (store .entry)) control .cells ⌝ }
 {
@@ -121,7 +121,7 @@ pub fn load(store: &mut [u32], control: Control, tape: &[u8]) -> State
 }
 
 // Lays a tape over the store: cells that no block names are kept. On a refusal nothing changes, and the given control record comes back.
-pub fn overlay(store: &mut [u32], control: Control, tape: &[u8]) -> State
+pub fn overlay(store: &mut [u32], control: Record, tape: &[u8]) -> State
     ensures state { λ r. ⌜ r ≡ overlaying (now (tape .entry)) (now (store .entry)) control .state ⌝ }
     ensures cells { λ _. ⌜ now (store .exit) ≡ overlaying (now (tape .entry)) (now (store .entry)) control .cells ⌝ }
 {

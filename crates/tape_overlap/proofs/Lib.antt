@@ -1,3 +1,4 @@
+mod Bits
 pub mod Names
 pub mod Passes
 pub mod Marked

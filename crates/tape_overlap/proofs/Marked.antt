@@ -1,19 +1,20 @@
 -- The marks: places marked one by one, a record's cells, the records of a tape. Assumes nothing.
-use Prim.Native.Nat.{ℕ, _+_, _-_, _≤_, _<_, min, max}
+use Prim.Native.Nat.{ℕ, _+_, _-_, _/_, _%_, _^_, _≤_, _<_, min, max}
 use mathlib.Core.Path.{_≡_, refl, sym, _∙_}
 use mathlib.Core.Bool.{Bool, true, false, cond}
 use mathlib.Core.List.{List, [], _∷_}
 use mathlib.Core.Logic.{_⊎_, inl, inr}
 use native.Mathlib.Omega.{arith}
 use native.Mathlib.Decide.{decLt, ℕ-discrete}
-use lib.ListN.{length, take, getD, set, replicate, getD-replicate}
-use lib.Seq.{getD-set-same, getD-set-other}
+use native.Mathlib.Nat.{zero-div}
+use lib.ListN.{length, take, replicate, getD-replicate}
 use Rattle.definition_tape.specs.Layout.{recordsOf}
 use Rattle.definition_tape.specs.Judge.{names, timesNamed}
 use Rattle.tape_overlap.specs.declared.Cells.{Cells}
-use Rattle.tape_overlap.specs.Again.{isWhole, cellsOf, MarkedFrom, Met, Marks, NamesMarked, Stop, SearchedPart}
+use Rattle.tape_overlap.specs.Again.{isWhole, cellsOf, bitAt, markAt, withMark, MarkedFrom, Met, Marks, NamesMarked, Stop, SearchedPart}
 use Rattle.tape_overlap.specs.Again.Stop.{again}
 use Rattle.tape_overlap.proofs.Names.{named, unnamed, named-in}
+use Rattle.tape_overlap.proofs.Bits.{mark-set, mark-other}
 use Rattle.tape_overlap.proofs.Passes.{lent, Passed, passed-is, passed-times}
 
 -- ---- one place after another
@@ -22,23 +23,23 @@ pub marked-none : (a : ℕ) (m : List ℕ) → MarkedFrom a a m m
 marked-none a m = record { marked = λ j h l. let no : ⊥ = omega arith in absurd no; others = λ j h. refl }
 
 module _ (a i : ℕ) (m r : List ℕ) (h : a ≤ i) (f : MarkedFrom a i m r) where
-  same : getD r i 0 ≡ getD m i 0
+  same : markAt r i ≡ markAt m i
   same = f .others i (inr (omega arith))
 
-  pub met-at : (e : ℕ) → i < e → (getD r i 0 ≡ 0 → ⊥) → Met a e m
+  pub met-at : (e : ℕ) → i < e → (markAt r i ≡ 0 → ⊥) → Met a e m
   met-at e l n =
-      let b : 0 < getD r i 0 = omega (arith, n) in
+      let b : 0 < markAt r i = omega (arith, n) in
       record { place = i; from = h; below = l; mark = rw (← same) b }
 
-  pub marked-more : i < length r → getD r i 0 ≡ 0 → MarkedFrom a (i + 1) m (set r i 1)
+  pub marked-more : i / 32 < length r → markAt r i ≡ 0 → MarkedFrom a (i + 1) m (withMark r i)
   marked-more l z =
       record {
         marked =
             λ j p q. elim (ℕ-discrete j i) [
-              | yes e ↦ rw e (sym same ∙ z, getD-set-same r i 1 0 l)
-              | no n ↦ let b : j < i = omega arith in (f .marked j p b .0, getD-set-other r i j 1 0 n ∙ f .marked j p b .1)
+              | yes e ↦ rw e (sym same ∙ z, mark-set r i l z)
+              | no n ↦ let b : j < i = omega arith in (f .marked j p b .0, mark-other r i l z j n ∙ f .marked j p b .1)
             ];
-        others = λ j o. getD-set-other r i j 1 0 (apart j o) ∙ f .others j (wider j o);
+        others = λ j o. mark-other r i l z j (apart j o) ∙ f .others j (wider j o);
       }
     where
       apart : (j : ℕ) → (j < a) ⊎ (i + 1 ≤ j) → j ≡ i → ⊥
@@ -61,11 +62,11 @@ module _ (a i : ℕ) (m r : List ℕ) (h : a ≤ i) (f : MarkedFrom a i m r) whe
       past j (inr p) q = omega arith
 
 -- ---- the cells c of one record
-module _ (low : ℕ) (t m : List ℕ) (c : Cells) (a e : ℕ) (w : isWhole t ≡ true) (d : c ≡ cellsOf t) (p : a ≡ min (c .from - low) 32768) (q : e ≡ min (c .to - low) 32768) where
-  first : a ≡ min (cellsOf t .from - low) 32768
+module _ (low : ℕ) (t m : List ℕ) (c : Cells) (a e : ℕ) (w : isWhole t ≡ true) (d : c ≡ cellsOf t) (p : a ≡ min (c .from - low) 262144) (q : e ≡ min (c .to - low) 262144) where
+  first : a ≡ min (cellsOf t .from - low) 262144
   first = rw d at p
 
-  last : e ≡ min (cellsOf t .to - low) 32768
+  last : e ≡ min (cellsOf t .to - low) 262144
   last = rw d at q
 
   pub marks-met : Met a e m → NamesMarked low t m
@@ -77,8 +78,8 @@ module _ (low : ℕ) (t m : List ℕ) (c : Cells) (a e : ℕ) (w : isWhole t ≡
         mark = h .mark;
       }
 
-  module _ (r : List ℕ) (f : MarkedFrom a e m r) (ts : List (List ℕ)) (k : Marks low ts m) (j : ℕ) (l : j < 32768) where
-    cell-counts : (b : Bool) → names t (low + j) ≡ b → (getD r j 0 ≡ cond b 1 0 + timesNamed ts (low + j)) × (cond b 1 0 + timesNamed ts (low + j) ≤ 1)
+  module _ (r : List ℕ) (f : MarkedFrom a e m r) (ts : List (List ℕ)) (k : Marks low ts m) (j : ℕ) (l : j < 262144) where
+    cell-counts : (b : Bool) → names t (low + j) ≡ b → (markAt r j ≡ cond b 1 0 + timesNamed ts (low + j)) × (cond b 1 0 + timesNamed ts (low + j) ≤ 1)
     cell-counts true n =
         let i = named t (low + j) w n in
         let g = f .marked j (omega (arith, first, i)) (omega (arith, last, i)) in
@@ -99,9 +100,12 @@ module _ (low : ℕ) (t m : List ℕ) (c : Cells) (a e : ℕ) (w : isWhole t ≡
 
 -- ---- the records of a tape
 
-pub marks-none : (low n : ℕ) → 32768 ≤ n → Marks low [] (replicate n 0)
-unfolding timesNamed
-marks-none low n h = record { counts = λ j l. getD-replicate n j 0 0 (omega arith); once = λ j l. omega arith }
+pub marks-none : (low n : ℕ) → 8192 ≤ n → Marks low [] (replicate n 0)
+unfolding timesNamed markAt bitAt
+marks-none low n h = record { counts = λ j l. rw (getD-replicate {A = ℕ} n (j / 32) 0 0 (omega arith)) (none (2 ^ (j % 32))); once = λ j l. omega arith }
+  where
+    none : (d : ℕ) → 0 / d % 2 ≡ 0
+    none d = rw (zero-div d)
 
 module _ (low : ℕ) (tape m : List ℕ) (at n : ℕ) (p : Passed tape at n) (w : isWhole (lent tape at) ≡ true) where
   pub marks-next : Marks low (lent tape at ∷ take n (recordsOf tape)) m → Marks low (take (n + 1) (recordsOf tape)) m
@@ -115,8 +119,29 @@ module _ (low : ℕ) (tape m : List ℕ) (at n : ℕ) (p : Passed tape at n) (w 
   pub stop-again : Marks low (take n (recordsOf tape)) m → NamesMarked low (lent tape at) m → Stop (recordsOf tape) n
   stop-again k s = again (low + s .place) (rw (passed-is tape at n p w) (s .named)) (omega (arith, s .mark, k .counts (s .place) (s .below)))
 
-pub searched : (low most : ℕ) (ts : List (List ℕ)) (n : ℕ) (m : List ℕ) → n ≤ most → Marks low (take n ts) m → Stop ts n → SearchedPart low most ts n
-searched low most ts n m h k s = record { bound = h; once = k .once; stop = inr s }
+-- what is left of the cells that the records before n name
+abbrev pub Unnamed : List (List ℕ) → ℕ → ℕ → Type 0
+Unnamed ts n high = (i : ℕ) → high ≤ i → timesNamed (take n ts) i ≡ 0
 
-pub searched-all : (low most : ℕ) (ts : List (List ℕ)) (n : ℕ) (m : List ℕ) → n ≡ most → Marks low (take n ts) m → SearchedPart low most ts most
-searched-all low most ts n m e k = record { bound = omega arith; once = rw e at (k .once); stop = inl refl }
+pub searched : (low most : ℕ) (ts : List (List ℕ)) (n high : ℕ) (m : List ℕ) → n ≤ most → Marks low (take n ts) m → Unnamed ts n high → (n ≡ most) ⊎ Stop ts n
+    → SearchedPart low most ts (record { first = n; high = high })
+searched low most ts n high m h k u s = record { bound = h; once = k .once; beyond = u; stop = s }
+
+pub searched-all : (low most : ℕ) (ts : List (List ℕ)) (n high : ℕ) (m : List ℕ) → n ≡ most → Marks low (take n ts) m → Unnamed ts n high
+    → SearchedPart low most ts (record { first = most; high = high })
+searched-all low most ts n high m e k u = rw e at (searched low most ts n high m (omega arith) k u (inl e))
+
+pub unnamed-none : (ts : List (List ℕ)) → Unnamed ts 0 0
+unfolding timesNamed
+unnamed-none ts i h = refl
+
+pub unnamed-next : (tape : List ℕ) (at n high new : ℕ) (c : Cells) → Passed tape at n → isWhole (lent tape at) ≡ true → c ≡ cellsOf (lent tape at)
+    → (high ≤ new) × (c .to ≤ new) → Unnamed (recordsOf tape) n high → Unnamed (recordsOf tape) (n + 1) new
+unnamed-next tape at n high new c p w d g u i h = rw (passed-times tape at n p w i) (at-cell (names (lent tape at) i) refl)
+  where
+    at-cell : (b : Bool) → names (lent tape at) i ≡ b → timesNamed (take n (recordsOf tape)) i + cond b 1 0 ≡ 0
+    at-cell true e =
+        let k = named (lent tape at) i w e in
+        let no : ⊥ = omega (arith, k, rw d at (g .1)) in
+        absurd no
+    at-cell false e = omega (arith, u i (omega (arith, g .0)))

@@ -1,9 +1,10 @@
 -- A tape at the place `at`, after its first n records. Assumes nothing.
-use Prim.Native.Nat.{ℕ, suc, _+_, _-_, _≤_, _<_}
+use Prim.Native.Nat.{ℕ, suc, _+_, _-_, _≤_, _<_, min}
 use mathlib.Core.Path.{_≡_, refl, sym, ap, _∙_}
 use mathlib.Core.Bool.{Bool, true, false, cond}
 use mathlib.Core.List.{List, [], _∷_}
 use mathlib.Core.Logic.{_⊎_, inl, inr}
+use native.Mathlib.Nat.{zero-add}
 use native.Mathlib.Numerals.{add-one}
 use native.Mathlib.Omega.{arith}
 use native.Mathlib.Decide.{decLt}
@@ -16,6 +17,7 @@ use Rattle.definition_tape.specs.Judge.{names, timesNamed}
 use Rattle.definition_tape.proofs.Records.{records-none, records-more}
 use Rattle.tape_records.proofs.Lent.{tail, length-tail}
 use Rattle.tape_overlap.specs.declared.Cells.{Cells}
+use Rattle.tape_overlap.specs.declared.Searched.{Searched}
 use Rattle.tape_overlap.specs.Again.{isWhole, cellsOf, Stop, SearchedPart, FirstAgain}
 use Rattle.tape_overlap.specs.Again.Stop.{after, broken}
 use Rattle.tape_overlap.proofs.Names.{times-more, times-less, records-count, whole-fits, named}
@@ -137,14 +139,37 @@ first-none tape n o =
       stop = after (records-count tape);
     }
 
-module _ (ts : List (List ℕ)) (cells left low n r : ℕ) (e : low ≡ left - 32768) (s : SearchedPart low n ts r) where
-  pub part-once : ((i : ℕ) → left ≤ i → i < cells → timesNamed (take n ts) i ≤ 1) → (i : ℕ) → low ≤ i → i < cells → timesNamed (take r ts) i ≤ 1
-  part-once o i l h =
-      elim (decLt i left) [
-        | yes b ↦ let j : low + (i - low) ≡ i = omega arith in rw j at (s .once (i - low) (omega arith))
-        | no b ↦ omega (arith, o i (omega arith) h, times-less r n ts i (s .bound))
-      ]
+-- what a search has found before the record n: no cell below 262,144 and none from `left` on is named twice
+pub record Found (cells left : ℕ) (ts : List (List ℕ)) (n : ℕ) : Type 0 where
+  pub front : (i : ℕ) → i < 262144 → timesNamed (take n ts) i ≤ 1
+  pub back : (i : ℕ) → left ≤ i → i < cells → timesNamed (take n ts) i ≤ 1
+  pub stop : Stop ts n
 
 pub part-stop : (ts : List (List ℕ)) (n r : ℕ) → (r ≡ n) ⊎ Stop ts r → Stop ts n → Stop ts r
 part-stop ts n r (inl e) s = rw e s
 part-stop ts n r (inr q) s = q
+
+pub found-front : (cells left most : ℕ) (ts : List (List ℕ)) (r : Searched) → length ts ≤ most → left ≡ min (r .high) cells → SearchedPart 0 most ts r
+    → Found cells left ts (r .first)
+found-front cells left most ts r l e s =
+    record {
+      front = λ i h. rw (zero-add i) at (s .once i h);
+      back = λ i h b. omega (arith, s .beyond i (omega arith));
+      stop = part-stop ts most (r .first) (s .stop) (after l);
+    }
+
+pub found-part : (cells left low n : ℕ) (ts : List (List ℕ)) (r : Searched) → left ≡ low + 262144 → SearchedPart low n ts r → Found cells left ts n
+    → Found cells low ts (r .first)
+found-part cells left low n ts r e s f =
+    record {
+      front = λ i h. omega (arith, f .front i h, times-less (r .first) n ts i (s .bound));
+      back =
+          λ i l h. elim (decLt i left) [
+            | yes b ↦ let j : low + (i - low) ≡ i = omega arith in rw j at (s .once (i - low) (omega arith))
+            | no b ↦ omega (arith, f .back i (omega arith) h, times-less (r .first) n ts i (s .bound))
+          ];
+      stop = part-stop ts n (r .first) (s .stop) (f .stop);
+    }
+
+pub found-all : (cells left : ℕ) (ts : List (List ℕ)) (n : ℕ) → left ≤ 262144 → Found cells left ts n → FirstAgain cells ts n
+found-all cells left ts n l f = record { once = λ i h. elim (decLt i 262144) [ yes b ↦ f .front i b | no b ↦ f .back i (omega arith) h ]; stop = f .stop }

@@ -1,15 +1,16 @@
 -- For the functions of this crate and the judge; no public contract rests on it. The first record of a tape that names a cell again.
 -- Assumes nothing.
-use Prim.Native.Nat.{ℕ, _+_, _≤_, _<_}
+use Prim.Native.Nat.{ℕ, _+_, _/_, _%_, _^_, _≤_, _<_}
 use mathlib.Core.Path.{_≡_}
 use mathlib.Core.Bool.{Bool, true, false, cond}
 use mathlib.Core.List.{List, []}
 use mathlib.Core.Logic.{_⊎_}
-use lib.ListN.{length, take, getD}
+use lib.ListN.{length, take, getD, set}
 use lib.Dec.{eqb, ltb, leb}
 use Rattle.definition_tape.specs.Layout.{lengthOf, kindOf, payloadOf, firstCell, cellCount}
 use Rattle.definition_tape.specs.Judge.{names, timesNamed}
 use Rattle.tape_overlap.specs.declared.Cells.{Cells}
+use Rattle.tape_overlap.specs.declared.Searched.{Searched}
 
 -- ---- one record
 
@@ -25,29 +26,40 @@ cellsOf t =
 
 -- ---- marks: the place j is that of the cell low + j
 
+-- the bit of x with the weight 2 ^ k
+unfoldable pub bitAt : ℕ → ℕ → ℕ
+bitAt x k = x / 2 ^ k % 2
+
+-- 32 places in a word
+unfoldable pub markAt : List ℕ → ℕ → ℕ
+markAt m j = bitAt (getD m (j / 32) 0) (j % 32)
+
+unfoldable pub withMark : List ℕ → ℕ → List ℕ
+withMark m j = set m (j / 32) (getD m (j / 32) 0 + 2 ^ (j % 32))
+
 -- the places from a up to e were not marked in m and are in r; the others are as they were
 pub record MarkedFrom (a e : ℕ) (m r : List ℕ) : Type 0 where
-  pub marked : (j : ℕ) → a ≤ j → j < e → (getD m j 0 ≡ 0) × (getD r j 0 ≡ 1)
-  pub others : (j : ℕ) → (j < a) ⊎ (e ≤ j) → getD r j 0 ≡ getD m j 0
+  pub marked : (j : ℕ) → a ≤ j → j < e → (markAt m j ≡ 0) × (markAt r j ≡ 1)
+  pub others : (j : ℕ) → (j < a) ⊎ (e ≤ j) → markAt r j ≡ markAt m j
 
 -- one of the places from a up to e is marked
 pub record Met (a e : ℕ) (m : List ℕ) : Type 0 where
   pub place : ℕ
   pub from : a ≤ place
   pub below : place < e
-  pub mark : 0 < getD m place 0
+  pub mark : 0 < markAt m place
 
 -- each mark is the number of times that its cell is named by the records ts, once at most
 pub record Marks (low : ℕ) (ts : List (List ℕ)) (m : List ℕ) : Type 0 where
-  pub counts : (j : ℕ) → j < 32768 → getD m j 0 ≡ timesNamed ts (low + j)
-  pub once : (j : ℕ) → j < 32768 → timesNamed ts (low + j) ≤ 1
+  pub counts : (j : ℕ) → j < 262144 → markAt m j ≡ timesNamed ts (low + j)
+  pub once : (j : ℕ) → j < 262144 → timesNamed ts (low + j) ≤ 1
 
 -- the record t names a cell whose mark is set
 pub record NamesMarked (low : ℕ) (t m : List ℕ) : Type 0 where
   pub place : ℕ
-  pub below : place < 32768
+  pub below : place < 262144
   pub named : names t (low + place) ≡ true
-  pub mark : 0 < getD m place 0
+  pub mark : 0 < markAt m place
 
 -- ---- the row of records ts
 
@@ -57,11 +69,12 @@ pub data Stop (ts : List (List ℕ)) (r : ℕ) : Type 0 where
   broken : isWhole (getD ts r []) ≡ false → Stop ts r
   again : (i : ℕ) → names (getD ts r []) i ≡ true → 0 < timesNamed (take r ts) i → Stop ts r
 
--- a search in the 32,768 cells from low on, before the record `most`
-pub record SearchedPart (low most : ℕ) (ts : List (List ℕ)) (r : ℕ) : Type 0 where
-  pub bound : r ≤ most
-  pub once : (j : ℕ) → j < 32768 → timesNamed (take r ts) (low + j) ≤ 1
-  pub stop : (r ≡ most) ⊎ Stop ts r
+-- a search in the 262,144 cells from low on, before the record `most`
+pub record SearchedPart (low most : ℕ) (ts : List (List ℕ)) (r : Searched) : Type 0 where
+  pub bound : r .first ≤ most
+  pub once : (j : ℕ) → j < 262144 → timesNamed (take (r .first) ts) (low + j) ≤ 1
+  pub beyond : (i : ℕ) → r .high ≤ i → timesNamed (take (r .first) ts) i ≡ 0
+  pub stop : (r .first ≡ most) ⊎ Stop ts (r .first)
 
 -- before the record r no cell below n is named twice, and the search stops there
 pub record FirstAgain (n : ℕ) (ts : List (List ℕ)) (r : ℕ) : Type 0 where

@@ -3,23 +3,31 @@
 ghost use mathlib.Core.Path.{_≡_};
 ghost use mathlib.Core.Bool.{true, false};
 ghost use mathlib.Core.List.{List, [], _∷_};
-ghost use Prim.Native.Nat.{ℕ, _+_, _-_, _≤_, min};
+ghost use Prim.Native.Nat.{ℕ, _+_, _-_, _*_, _^_, _≤_, _<_, min, max};
 ghost use lib.ListN.{length};
 ghost use Rattle.definition_tape.specs.Layout.{recordsOf, firstCell, cellCount};
 ghost use Rattle.definition_tape.specs.Judge.{timesNamed};
-ghost use Rattle.tape_overlap.specs.Again.{isWhole, cellsOf, MarkedFrom, Met, Marks, NamesMarked, SearchedPart, FirstAgain};
+ghost use Rattle.tape_overlap.specs.Again.{isWhole, cellsOf, bitAt, markAt, withMark, MarkedFrom, Met, Marks, NamesMarked, SearchedPart, FirstAgain};
 use tape_records::number_at;
 use tape_records::payload;
 use tape_records::record_kind;
 use tape_records::record_length;
 
-// The places of the marks.
-const PLACES: usize = 32768;
+const WORDS: usize = 8192;
+
+// The places of the marks, a bit each.
+const PLACES: usize = 262144;
 
 // The cells that a record names: those from `from` up to, not including, `to`; none where both are equal.
 pub struct Cells {
     pub from: usize,
     pub to: usize,
+}
+
+// What a search finds: the number of the record where it stops, and an end of the cells that the records before it name.
+pub struct Searched {
+    pub first: usize,
+    pub high: usize,
 }
 
 fn whole(t: &[u8]) -> bool
@@ -78,96 +86,137 @@ fn rising(tape: &[u8]) -> bool
     true
 }
 
+fn smaller(a: usize, b: usize) -> usize
+    ensures { λ r. ⌜ r ≡ min a b ⌝ }
+{
+    if a < b { a } else { b }
+}
+
+fn larger(a: usize, b: usize) -> usize
+    ensures { λ r. ⌜ r ≡ max a b ⌝ }
+{
+    if a < b { b } else { a }
+}
+
 // The place of the cell i, where the cell `low` has place 0: 0 for a cell before it, PLACES for one after the last place.
 fn place(i: usize, low: usize) -> usize
-    ensures { λ r. ⌜ r ≡ min (i - low) 32768 ⌝ }
+    ensures { λ r. ⌜ r ≡ min (i - low) 262144 ⌝ }
 {
     if i < low {
         return 0;
     }
-    if PLACES < i - low {
-        return PLACES;
-    }
-    i - low
+    smaller(i - low, PLACES)
+}
+
+fn mark_at(marks: &[u32], i: usize) -> u32
+    requires { ⌜ i < 32 * length (now marks) ⌝ }
+    ensures { λ r. ⌜ r ≡ markAt (now (marks .entry)) i ⌝ }
+{
+    (marks[i / 32] >> (i % 32)) % 2
+}
+
+fn weight(k: usize) -> u32
+    requires { ⌜ k < 32 ⌝ }
+    ensures { λ r. ⌜ r ≡ 2 ^ k ⌝ }
+{
+    1 << k
+}
+
+fn with_bit(x: u32, k: usize) -> u32
+    requires { ⌜ (k < 32) × (bitAt x k ≡ 0) ⌝ }
+    ensures { λ r. ⌜ r ≡ x + 2 ^ k ⌝ }
+{
+    x + weight(k)
+}
+
+fn set_mark(marks: &mut [u32], i: usize)
+    requires { ⌜ (i < 32 * length (now marks)) × (markAt (now marks) i ≡ 0) ⌝ }
+    ensures { λ _. ⌜ now (marks .exit) ≡ withMark (now (marks .entry)) i ⌝ }
+{
+    marks[i / 32] = with_bit(marks[i / 32], i % 32);
 }
 
 // Marks the places from a up to e; true where it meets one that is marked.
-fn mark(marks: &mut [u8], a: usize, e: usize) -> bool
-    requires { ⌜ e ≤ length (now marks) ⌝ }
+fn mark(marks: &mut [u32], a: usize, e: usize) -> bool
+    requires { ⌜ e ≤ 32 * length (now marks) ⌝ }
     ensures size { λ _. ⌜ length (now (marks .exit)) ≡ length (now (marks .entry)) ⌝ }
     ensures passed { λ r. ⌜ (r ≡ false → MarkedFrom a e (now (marks .entry)) (now (marks .exit))) ⌝ }
     ensures met { λ r. ⌜ (r ≡ true → Met a e (now (marks .entry))) ⌝ }
 {
     let mut i = a;
     while i < e {
-        if marks[i] != 0 {
+        if mark_at(marks, i) != 0 {
             return true;
         }
-        marks[i] = 1;
+        set_mark(marks, i);
         i += 1;
     }
     false
 }
 
-fn mark_record(marks: &mut [u8], t: &[u8], low: usize) -> bool
-    requires { ⌜ (length (now marks) ≡ 32768) × (isWhole (now t) ≡ true) ⌝ }
-    ensures size { λ _. ⌜ length (now (marks .exit)) ≡ 32768 ⌝ }
-    ensures passed { λ r. ⌜ (r ≡ false → (ts : List (List ℕ)) → Marks low ts (now (marks .entry)) → Marks low (now (t .entry) ∷ ts) (now (marks .exit))) ⌝ }
-    ensures met { λ r. ⌜ (r ≡ true → NamesMarked low (now (t .entry)) (now (marks .entry))) ⌝ }
+fn mark_cells(marks: &mut [u32], c: Cells, low: usize) -> bool
+    requires { ⌜ length (now marks) ≡ 8192 ⌝ }
+    ensures size { λ _. ⌜ length (now (marks .exit)) ≡ 8192 ⌝ }
+    ensures passed { λ r. ⌜ (r ≡ false → (t : List ℕ) → isWhole t ≡ true → c ≡ cellsOf t → (ts : List (List ℕ)) → Marks low ts (now (marks .entry)) → Marks low (t ∷ ts) (now (marks .exit))) ⌝ }
+    ensures met { λ r. ⌜ (r ≡ true → (t : List ℕ) → isWhole t ≡ true → c ≡ cellsOf t → NamesMarked low t (now (marks .entry))) ⌝ }
 {
-    let c = cells_named(t);
     let a = place(c.from, low);
     let e = place(c.to, low);
     mark(marks, a, e)
 }
 
-fn mark_records(marks: &mut [u8], tape: &[u8], low: usize, most: usize) -> usize
-    requires { ⌜ (length (now marks) ≡ 32768) × Marks low [] (now marks) ⌝ }
+fn mark_records(marks: &mut [u32], tape: &[u8], low: usize, most: usize) -> Searched
+    requires { ⌜ (length (now marks) ≡ 8192) × Marks low [] (now marks) ⌝ }
     ensures { λ r. ⌜ SearchedPart low most (recordsOf (now (tape .entry))) r ⌝ }
 {
     let mut at: usize = 0;
     let mut n: usize = 0;
+    let mut high: usize = 0;
     while n < most {
         let t = &tape[at..];
         if !whole(t) {
-            return n;
+            return Searched {
+                first: n,
+                high: high,
+            };
         }
-        if mark_record(marks, t, low) {
-            return n;
+        let c = cells_named(t);
+        let to = c.to;
+        if mark_cells(marks, c, low) {
+            return Searched {
+                first: n,
+                high: high,
+            };
         }
+        high = larger(high, to);
         at += 6 + record_length(t);
         n += 1;
     }
-    most
+    Searched {
+        first: most,
+        high: high,
+    }
 }
 
-fn search_part(tape: &[u8], low: usize, most: usize) -> usize
+fn search_part(tape: &[u8], low: usize, most: usize) -> Searched
     ensures { λ r. ⌜ SearchedPart low most (recordsOf (now (tape .entry))) r ⌝ }
 {
-    let mut marks = [0u8; PLACES];
+    let mut marks = [0u32; WORDS];
     mark_records(&mut marks, tape, low, most)
 }
 
-// The first cell of the part that ends before the cell `left`.
-fn part_start(left: usize) -> usize
-    ensures { λ r. ⌜ r ≡ left - 32768 ⌝ }
-{
-    if left < PLACES {
-        return 0;
-    }
-    left - PLACES
-}
-
+// The first part tells how far the others go: a tape's blocks mostly lie at the front of the store.
 fn search(tape: &[u8], cells: usize) -> usize
     ensures bound { λ r. ⌜ r ≤ length (now (tape .entry)) ⌝ }
     ensures first { λ r. ⌜ FirstAgain cells (recordsOf (now (tape .entry))) r ⌝ }
 {
-    let mut n = tape.len();
-    let mut left = cells;
-    while 0 < left {
-        let low = part_start(left);
-        n = search_part(tape, low, n);
-        left = low;
+    let front = search_part(tape, 0, tape.len());
+    let mut n = front.first;
+    let mut left = smaller(front.high, cells);
+    while PLACES < left {
+        left -= PLACES;
+        let part = search_part(tape, left, n);
+        n = part.first;
     }
     n
 }

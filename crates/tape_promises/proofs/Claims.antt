@@ -7,13 +7,13 @@ use native.Mathlib.Omega.{arith}
 use borrow.Author.Tests.{le-leb}
 use lib.ListN.{length, getD, replicate, length-replicate}
 use lib.Seq.{ext-getD}
-use Rattle.machine.specs.declared.Control.{Control}
+use Rattle.machine.specs.declared.Record.{Record}
 use Rattle.machine.specs.declared.Refusal.the-variants.{CellValue, StoreSize}
 use Rattle.machine.specs.declared.Verdict.{Verdict}
 use Rattle.machine.specs.declared.Verdict.the-variants.{Accepted, Rejected}
 use Rattle.acceptance.proofs.Tests.{passed, refused}
-use Rattle.acceptance.specs.Accept.{sizeFits, cellsFit, judgeStore, judgeMachine}
-use Rattle.definition_tape.specs.Layout.{recordsOf}
+use Rattle.acceptance.specs.Accept.{sizeFits, cellsFit, judgeStore, judgeRegisters, judgeMachine}
+use Rattle.definition_tape.specs.Layout.{recordsOf, timerOf, controlRecordOf}
 use Rattle.definition_tape.specs.Judge.{judgeTape, timesNamed}
 use Rattle.definition_tape.specs.Load.{Loaded, loadRecords, tapeCells, loadedControl, judgeThen, judgeLoad, loadedBy, cleared, loading, overlaying}
 use Rattle.definition_tape.specs.Remark.{judgeReading, remarkSpan, remarkText}
@@ -21,11 +21,11 @@ use Rattle.definition_tape.proofs.Judged.{judged-back, tape-judged, passed-then
 use Rattle.definition_tape.proofs.Machines.{machine}
 use Rattle.definition_tape.proofs.Remarks.{remark-part as part}
 use Rattle.tape_promises.specs.Grammar.{Records, TapeFor, blocksOf}
-use Rattle.tape_promises.specs.Contents.{SameBlocks}
+use Rattle.tape_promises.specs.Contents.{SameBlocks, controlPayload}
 use Rattle.tape_promises.specs.Claims.{AcceptedTapes, NoCellTwice, Call, load, overlay, called, unnamedCell, LoadedFrom, OverlaidFrom, LoadsLayout, ClearedCells, KeptCells, SameMachine, LoadIsOverlay, BorderOverGround, AnyOrder, AcceptedInAnyOrder, KeptSize, KeptAll, LoadedMachines, SameVerdict, FirstRemark, RemarkPart}
-use Rattle.tape_promises.proofs.Grammars.{grammar, judged-of}
+use Rattle.tape_promises.proofs.Grammars.{grammar, judged-of, timer-good}
 use Rattle.tape_promises.proofs.Once.{judged-once, once-blocks, blocks-once, once-order, names-two}
-use Rattle.tape_promises.proofs.Contents.{only-kept, same-cell, size-loaded, cells-loaded, cells-fit, control-is, control-payload-good, control-fields, span-is, text-is}
+use Rattle.tape_promises.proofs.Contents.{only-kept, same-cell, size-loaded, cells-loaded, cells-fit, control-is, control-payload-good, record-fields, span-is, text-is}
 
 none-named : (i : ℕ) → timesNamed [] i ≤ 1
 unfolding timesNamed
@@ -67,7 +67,7 @@ unfolding under cleared
 size-under load s = sym (length-replicate {A = ℕ} (length s) 0)
 size-under overlay s = refl
 
-pub called-is : (k : Call) (t s : List ℕ) (c : Control) → called k t s c ≡ loadedBy (judgeLoad t s) t (under k s) s c
+pub called-is : (k : Call) (t s : List ℕ) (c : Record) → called k t s c ≡ loadedBy (judgeLoad t s) t (under k s) s c
 unfolding under loading overlaying
 called-is load t s c = refl
 called-is overlay t s c = refl
@@ -83,11 +83,11 @@ cell-under load s i = cell-zero (length s) i
 cell-under overlay s i = refl
 
 -- an accepted tape over the cells u
-over : {n : ℕ} (t u s : List ℕ) (c : Control) (h : TapeFor n t) → n ≡ length u → LoadedFrom (h .layout) (λ i. getD u i 0) (loadedBy Accepted t u s c)
+over : {n : ℕ} (t u s : List ℕ) (c : Record) (h : TapeFor n t) → n ≡ length u → LoadedFrom (h .layout) (λ i. getD u i 0) (loadedBy Accepted t u s c)
 unfolding loadedControl tapeCells
 over t u s c h e =
     let r = h .layout in
-    record { accepted = refl; size = size-loaded u r e ∙ sym e; cells = cells-loaded u r e (h .once); control = rw (control-is r) (control-fields r) }
+    record { accepted = refl; size = size-loaded u r e ∙ sym e; cells = cells-loaded u r e (h .once); control = rw (control-is r) (record-fields r) }
 
 pub loads-layout : LoadsLayout
 loads-layout k t s c e h =
@@ -154,13 +154,14 @@ fit-under load s e = fit-zeros (length s)
 fit-under overlay s e = e
 
 machine-fits : (k : Call) (t s : List ℕ) → judgeLoad t s ≡ Accepted → judgeMachine (tapeCells (under k s) t) (loadedControl t) ≡ Accepted
-unfolding judgeMachine loadedControl tapeCells
+unfolding judgeRegisters judgeMachine loadedControl controlRecordOf tapeCells
 machine-fits k t s e =
     let j = load-judged t s e in
     let r = j .1 .layout in
     let f = store-fits s (j .0) in
     let z = size-under k s in
-    rw (size-loaded (under k s) r z, ← z, f .0, cells-fit (under k s) r (fit-under k s (f .1)), control-is r, control-payload-good r .fields)
+    let c = control-payload-good r in
+    rw (size-loaded (under k s) r z, ← z, f .0, cells-fit (under k s) r (fit-under k s (f .1)), control-is r, c .registers .fields, timer-good (timerOf (controlPayload r)) (c .timer))
 
 pub loaded-machines : LoadedMachines
 loaded-machines k t s c = rw (called-is k t s c) (at (judgeLoad t s) refl)
@@ -186,7 +187,7 @@ same-machine t s u c d l h f = at (judgeLoad t s) refl h
     at Accepted e a = rw (sym (judge-same t s u l (store-fits s (load-judged t s e .0) .1) f) ∙ e, l)
 
 -- the tape into the cells s, and over n cells of zero
-onto-zeros : (v w : Verdict) (t s : List ℕ) (c : Control) (n : ℕ) → w ≡ v
+onto-zeros : (v w : Verdict) (t s : List ℕ) (c : Record) (n : ℕ) → w ≡ v
     → let x = loadedBy v t (cleared n) s c in
     let y = loadedBy w t (replicate n 0) (replicate n 0) c in
     (x .state ≡ y .state) × (x .state .verdict ≡ Accepted → x .cells ≡ y .cells)
@@ -200,12 +201,12 @@ load-is-overlay t s c e =
     let n = length s in
     onto-zeros (judgeLoad t s) _ t s c n (judge-same t (replicate n 0) s (length-replicate {A = ℕ} n 0) (fit-zeros n) e)
 
-machine-store : (s : List ℕ) (c : Control) → judgeMachine s c ≡ Accepted → judgeStore s ≡ Accepted
+machine-store : (s : List ℕ) (c : Record) → judgeMachine s c ≡ Accepted → judgeStore s ≡ Accepted
 unfolding judgeStore
 machine-store s c e = let h = machine s c e in rw (h .fits, h .cells)
 
 -- a tape over what a load left
-over-loaded : {n : ℕ} {t : List ℕ} {r : Records n t} (u : List ℕ) (x : Loaded) (d : Control) → LoadedFrom r (λ i. 0) x → judgeStore (x .cells) ≡ Accepted
+over-loaded : {n : ℕ} {t : List ℕ} {r : Records n t} (u : List ℕ) (x : Loaded) (d : Record) → LoadedFrom r (λ i. 0) x → judgeStore (x .cells) ≡ Accepted
     → (h : TapeFor n u) → OverlaidFrom r (h .layout) (overlaying u (x .cells) d)
 unfolding overlaying
 over-loaded u x d g e h =

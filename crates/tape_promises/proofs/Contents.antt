@@ -3,10 +3,10 @@ use Prim.Native.Nat.{ℕ, zero, suc, _+_, _-_, _*_, _/_, _%_, _≤_, _<_}
 use mathlib.Core.Path.{_≡_, refl, sym, ap, subst, _∙_}
 use mathlib.Core.Bool.{Bool, true, false}
 use mathlib.Core.List.{List, [], _∷_, _++_}
-use mathlib.Core.Logic.{inl, inr}
+use mathlib.Core.Logic.{_⊎_, inl, inr}
 use native.Mathlib.Omega.{arith}
 use native.Mathlib.Decide.{decLe, decLt}
-use borrow.Author.Tests.{ne-eqb, eqb-true, eqb-false}
+use borrow.Author.Tests.{lt-ltb, le-ltb, ne-eqb, eqb-true, eqb-false}
 use lib.ListN.{length, take, drop, getD, length-append, length-take, length-drop, List·getD-append}
 use lib.Seq.{getD-take, getD-drop, getD-append-add, take-nil}
 use lib.Dec.{ltb, eqb}
@@ -14,13 +14,13 @@ use Rattle.machine.specs.declared.Verdict.the-variants.{Accepted}
 use Rattle.acceptance.proofs.Tests.{both}
 use Rattle.acceptance.specs.Accept.{cellsFit}
 use Rattle.definition_tape.specs.Blocks.{Block, Names, Named, NamedOnce}
-use Rattle.definition_tape.specs.Layout.{lengthOf, payloadOf, recordsOf, firstOf, firstCell, cellCount, blockCells, flagsOf, controlOf}
+use Rattle.definition_tape.specs.Layout.{lengthOf, payloadOf, recordsOf, firstOf, firstCell, cellCount, blockCells, flagsOf, controlOf, timerOf, controlRecordOf}
 use Rattle.definition_tape.specs.Load.{pasted, storedBlock, loadRecord, loadRecords}
 use Rattle.definition_tape.specs.Remark.{spanBy}
 use Rattle.definition_tape.proofs.Firsts.{first-none, first-here, first-next}
 use Rattle.definition_tape.proofs.Loads.{length-cells, load-more, load-none}
 use Rattle.tape_promises.specs.Grammar.{ControlPayload, Records, block-then, remark-then, control-then-end, blocksOf}
-use Rattle.tape_promises.specs.Contents.{Among, TheOne, Holds, written, kept, SameBlocks, controlPayload, oneIf, ControlFields, firstRemark, spanOf, remarkBytes}
+use Rattle.tape_promises.specs.Contents.{Among, TheOne, Holds, written, kept, SameBlocks, controlPayload, oneIf, ControlFields, TimerFields, zeroes, fields, RecordFields, firstRemark, spanOf, remarkBytes}
 use Rattle.tape_promises.proofs.Grammars.{Reads, reads, reads-end}
 
 -- ---- the cells of a store that takes a block
@@ -241,9 +241,9 @@ three-bits x h =
     let b : x / 2 / 2 ≡ x / 4 = omega arith in
     omega arith
 
-pub control-fields : {n : ℕ} {w : List ℕ} (r : Records n w) → ControlFields (controlPayload r) (controlOf (controlPayload r))
+registers-are : {n : ℕ} {w : List ℕ} (r : Records n w) → ControlFields (controlPayload r) (controlOf (controlPayload r))
 unfolding controlOf
-control-fields r =
+registers-are r =
     let p = controlPayload r in
     record {
       ic = refl;
@@ -252,8 +252,17 @@ control-fields r =
       pending = refl;
       pr = refl;
       ex = refl;
-      flags = rw (bit (flagsOf p), bit (flagsOf p / 2), bit (flagsOf p / 4)) (three-bits (flagsOf p) (control-payload-good r .flags));
+      flags = rw (bit (flagsOf p), bit (flagsOf p / 2), bit (flagsOf p / 4)) (three-bits (flagsOf p) (control-payload-good r .registers .flags));
     }
+
+timer-is : (p : List ℕ) → (length p ≡ 20) ⊎ (length p ≡ 33) → TimerFields p (timerOf p)
+unfolding timerOf
+timer-is p (inl e) = zeroes e (rw (lt-ltb (length p) 33 (omega arith)))
+timer-is p (inr e) = let g = le-ltb (length p) 33 (omega arith) in fields e (rw g) (rw g) (rw g) (rw g)
+
+pub record-fields : {n : ℕ} {w : List ℕ} (r : Records n w) → RecordFields (controlPayload r) (controlRecordOf (controlPayload r))
+unfolding controlRecordOf
+record-fields r = record { registers = registers-are r; timer = timer-is (controlPayload r) (control-payload-good r .bytes) }
 
 -- ---- the first remark of the records from the byte `at` of the tape v on
 

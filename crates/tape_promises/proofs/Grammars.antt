@@ -3,17 +3,20 @@ use Prim.Native.Nat.{ℕ, _+_, _*_, _%_, _≤_, _<_}
 use mathlib.Core.Path.{_≡_, refl, sym, ap, subst, _∙_}
 use mathlib.Core.Bool.{Bool, true, false, cond}
 use mathlib.Core.List.{List, [], _∷_, _++_, append-nil}
+use mathlib.Core.Logic.{_⊎_, inl, inr}
 use native.Mathlib.Omega.{arith}
 use native.Mathlib.Decide.{ℕ-discrete}
-use borrow.Author.Tests.{le-leb, eq-eqb, ne-eqb, leb-true, eqb-true, ltb-false}
+use borrow.Author.Tests.{le-leb, le-ltb, lt-ltb, eq-eqb, ne-eqb, leb-true, eqb-true, ltb-true, ltb-false}
 use lib.ListN.{length, take, drop, getD, length-append, length-take, take-append-drop, List·getD-append}
 use lib.Seq.{take-append-seam, drop-append-seam, drop-drop, getD-take}
 use lib.Dec.{leb, ltb, eqb}
+use Rattle.machine.specs.declared.Timer.{Timer}
 use Rattle.machine.specs.declared.Verdict.the-variants.{Accepted}
+use Rattle.acceptance.specs.Accept.{timerFits}
 use Rattle.acceptance.proofs.Tests.{both, neither}
-use Rattle.definition_tape.specs.Layout.{numberAt, lengthOf, kindOf, payloadOf, restOf, recordsOf, firstCell, cellCount, flagsOf, lastByte}
+use Rattle.definition_tape.specs.Layout.{numberAt, lengthOf, kindOf, payloadOf, restOf, recordsOf, firstCell, cellCount, flagsOf, zeroByte, timerOf}
 use Rattle.definition_tape.specs.Judge.{kindKnown, inOrder, lengthFits, judgeBlock, controlGood, judgeControl, judgePayload, names, timesNamed, unnamedCells}
-use Rattle.tape_promises.specs.Grammar.{Header, BlockPayload, ControlPayload, Records, block-then, remark-then, control-then-end}
+use Rattle.tape_promises.specs.Grammar.{Header, BlockPayload, RegistersPayload, TimerRules, ControlPayload, Records, block-then, remark-then, control-then-end}
 use Rattle.definition_tape.proofs.Records.{length-payload, records-more}
 use Rattle.definition_tape.proofs.Named.{cell-named, unnamed-back}
 use Rattle.definition_tape.proofs.Judged.{Good, Judged, last, more, block-length, control-length, end-length, remark-length, block-payload, control-payload, no-end}
@@ -53,21 +56,44 @@ block-of {n} {after} {u} {t} g e =
     let s = length-payload t (g .whole) in
     record { fours = rw s (l .0); some = rw s (l .1); place = p .0; cells = p .2 }
 
-pub control-payload-of : (p : List ℕ) → length p ≡ 20 → controlGood p ≡ true → ControlPayload p
+pub registers-of : (p : List ℕ) → controlGood p ≡ true → RegistersPayload p
 unfolding controlGood
-control-payload-of p l e =
+registers-of p e =
     let a = both (leb (flagsOf p) 7) _ e in
-    let b = both (eqb (lastByte p) 0) _ (a .1) in
-    record { bytes = l; flags = leb-true (flagsOf p) 7 (a .0); zero = eqb-true (lastByte p) 0 (b .0); fields = b .1 }
+    let b = both (eqb (zeroByte p) 0) _ (a .1) in
+    record { flags = leb-true (flagsOf p) 7 (a .0); zero = eqb-true (zeroByte p) 0 (b .0); fields = b .1 }
 
-pub control-good : (p : List ℕ) → ControlPayload p → controlGood p ≡ true
+pub registers-good : (p : List ℕ) → RegistersPayload p → controlGood p ≡ true
 unfolding controlGood
-control-good p c = rw (le-leb (flagsOf p) 7 (c .flags), eq-eqb (lastByte p) 0 (c .zero), c .fields)
+registers-good p c = rw (le-leb (flagsOf p) 7 (c .flags), eq-eqb (zeroByte p) 0 (c .zero), c .fields)
+
+pub timer-rules : (t : Timer) → timerFits t ≡ true → TimerRules t
+unfolding timerFits
+timer-rules t e = record { line = λ h. (ltb-false (t .line) 3 (on h .0), let l = ltb-true (t .line) 24 (on h .1) in omega arith); phase = λ h. ltb-true (t .phase) (t .period) (on h .2) }
+  where
+    on : 0 < t .period → (ltb (t .line) 3 ≡ false) × (ltb (t .line) 24 ≡ true) × (ltb (t .phase) (t .period) ≡ true)
+    on h =
+        let o : t .period ≡ 0 → ⊥ = λ z. omega arith in
+        let a = neither (ltb (t .line) 3) (cond (ltb (t .line) 24) (ltb (t .phase) (t .period)) false) (rw (ne-eqb (t .period) 0 o) at e) in
+        let b = both (ltb (t .line) 24) (ltb (t .phase) (t .period)) (a .1) in
+        (a .0, b .0, b .1)
+
+pub timer-good : (t : Timer) → TimerRules t → timerFits t ≡ true
+unfolding timerFits
+timer-good t r = at (ℕ-discrete (t .period) 0)
+  where
+    at : Dec (t .period ≡ 0) → timerFits t ≡ true
+    at (yes e) = rw (eq-eqb (t .period) 0 e)
+    at (no o) =
+        let h : 0 < t .period = omega arith in
+        let l = r .line h in
+        rw (ne-eqb (t .period) 0 o, le-ltb (t .line) 3 (l .0), lt-ltb (t .line) 24 (omega (arith, l .1)), lt-ltb (t .phase) (t .period) (r .phase h))
 
 control-of : {n : ℕ} {after u : Bool} {t : List ℕ} → Good n after u t → kindOf t ≡ 2 → ControlPayload (payloadOf t)
 control-of {n} {after} {u} {t} g e =
-    control-payload-of (payloadOf t) (length-payload t (g .whole) ∙ control-length (lengthOf t) (rw e at (g .size)))
-    (control-payload n u (payloadOf t) (rw e at (g .payload)))
+    let s = length-payload t (g .whole) in
+    let c = control-payload n u (payloadOf t) (rw e at (g .payload)) in
+    record { bytes = rw s (control-length (lengthOf t) (rw e at (g .size))); registers = registers-of (payloadOf t) (c .0); timer = timer-rules (timerOf (payloadOf t)) (c .1) }
 
 -- only the end stands after the control record
 end-of : {n : ℕ} {after : Bool} {earlier : List (List ℕ)} {t : List ℕ} → Judged n after earlier t → after ≡ true → Header 3 0 t
@@ -160,9 +186,15 @@ good-remark : (n : ℕ) (u : Bool) (p t w : List ℕ) → Reads 4 p t w → leng
 unfolding kindKnown inOrder lengthFits judgePayload
 good-remark n u p t w r h = good-of n 4 false u p t w r refl refl (le-leb (length p) 255 h) refl
 
+pub control-fits : (l : ℕ) → (l ≡ 20) ⊎ (l ≡ 33) → lengthFits 2 l ≡ true
+unfolding lengthFits
+control-fits l (inl e) = rw e
+control-fits l (inr e) = rw e
+
 good-control : (n : ℕ) (u : Bool) (p t w : List ℕ) → Reads 2 p t w → ControlPayload p → Good n false u w
-unfolding kindKnown inOrder lengthFits judgePayload judgeControl
-good-control n u p t w r c = good-of n 2 false u p t w r refl refl (eq-eqb (length p) 20 (c .bytes)) (rw (control-good p c))
+unfolding kindKnown inOrder judgePayload judgeControl
+good-control n u p t w r c =
+    good-of n 2 false u p t w r refl refl (control-fits (length p) (c .bytes)) (rw (registers-good p (c .registers), timer-good (timerOf p) (c .timer)))
 
 judged-end : (n : ℕ) (earlier : List (List ℕ)) (e : List ℕ) → Header 3 0 e → Judged n true earlier e
 unfolding lengthOf kindOf kindKnown inOrder lengthFits judgePayload

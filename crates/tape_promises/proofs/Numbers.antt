@@ -10,25 +10,26 @@ use borrow.Author.Tests.{le-leb, eq-eqb, ne-eqb, ltb-true, ltb-false, leb-true, 
 use lib.ListN.{length, getD}
 use lib.Dec.{ltb, leb, eqb}
 use Rattle.machine.specs.Answers.{refusalNumber, verdictNumber}
-use Rattle.machine.specs.declared.Control.{Control}
+use Rattle.machine.specs.declared.Timer.{Timer}
+use Rattle.machine.specs.declared.Record.{Record}
 use Rattle.machine.specs.declared.Refusal.{Refusal}
-use Rattle.machine.specs.declared.Refusal.the-variants.{StoreSize, CellValue, ControlField, Lines, Budget, TapeEnds, RecordKind, RecordLength, BlockPlace, BlockCell, RecordOrder, TapeLength, Device, RemarkLength, WrittenLength, BufferLength, BlockOverlap}
+use Rattle.machine.specs.declared.Refusal.the-variants.{StoreSize, CellValue, ControlField, Lines, Budget, TapeEnds, RecordKind, RecordLength, BlockPlace, BlockCell, RecordOrder, TapeLength, Device, RemarkLength, WrittenLength, BufferLength, BlockOverlap, TimerField}
 use Rattle.machine.specs.declared.Verdict.{Verdict}
 use Rattle.machine.specs.declared.Verdict.the-variants.{Accepted, Rejected}
 use Rattle.acceptance.proofs.Tests.{refused}
-use Rattle.acceptance.specs.Accept.{sizeFits, cellsFit, judgeStore}
-use Rattle.definition_tape.specs.Layout.{lengthOf, kindOf, payloadOf, restOf, recordsOf, firstOf, firstCell, cellCount, blockCells}
+use Rattle.acceptance.specs.Accept.{sizeFits, cellsFit, timerFits, judgeStore}
+use Rattle.definition_tape.specs.Layout.{lengthOf, kindOf, payloadOf, restOf, recordsOf, firstOf, firstCell, cellCount, blockCells, timerOf}
 use Rattle.definition_tape.specs.Judge.{kindKnown, inOrder, lengthFits, judgeBlock, controlGood, judgeControl, judgePayload, judgeRecord, names, timesNamed, unnamedCells, judgeAfter, judgeRecords, judgeTape}
 use Rattle.definition_tape.specs.Load.{judgeThen, judgeLoad, loadedBy}
 use Rattle.definition_tape.specs.Remark.{judgeReading, noSpan, spanAt, spanBy, remarkSpan, textBy, remarkText}
-use Rattle.definition_tape.proofs.Records.{length-rest, length-payload}
-use Rattle.definition_tape.proofs.Judged.{block-length, control-length, end-length, remark-length, no-records, a-record}
+use Rattle.definition_tape.proofs.Records.{length-rest}
+use Rattle.definition_tape.proofs.Judged.{block-length, control-length, control-judged, end-length, remark-length, no-records, a-record}
 use Rattle.definition_tape.proofs.Named.{names-cell, cell-named, unnamed-true, unnamed-false}
-use Rattle.tape_promises.specs.Grammar.{ControlPayload}
+use Rattle.tape_promises.specs.Grammar.{RegistersPayload, TimerRules}
 use Rattle.tape_promises.specs.Numbers.{Test, met, unmet, passed, OutOfOrder, LengthFor, SomeNames, NamesAgain, RecordRefused, RecordsRefused, this-one, later-one, TapeRefused, SizeRefused, LoadRefused, ReadingRefused}
 use Rattle.tape_promises.specs.Claims.{Call, called, TapeNumbers, LoadNumbers, ReadingNumbers}
 use Rattle.tape_promises.proofs.Claims.{under, called-is}
-use Rattle.tape_promises.proofs.Grammars.{control-payload-of, control-good}
+use Rattle.tape_promises.proofs.Grammars.{registers-of, registers-good, timer-rules, timer-good, control-fits}
 
 -- m is the number that P allows, 0 where it allows none
 abbrev pub Gives : ℕ → (ℕ → Type 0) → Type 0
@@ -94,7 +95,7 @@ length-fits k l a b f = at (ℕ-discrete k 1) (ℕ-discrete k 2) (ℕ-discrete k
   where
     at : Dec (k ≡ 1) → Dec (k ≡ 2) → Dec (k ≡ 3) → lengthFits k l ≡ true
     at (yes e) x y = let h = f .block e in rw (e, eq-eqb (l % 4) 0 (h .0), le-leb 8 l (h .1))
-    at (no o) (yes e) y = rw (e, eq-eqb l 20 (f .control e))
+    at (no o) (yes e) y = rw e (control-fits l (f .control e))
     at (no o) (no x) (yes e) = rw (e, eq-eqb l 0 (f .end e))
     at (no o) (no x) (no y) = let e : k ≡ 4 = omega arith in rw (e, le-leb l 255 (f .remark e))
 
@@ -112,6 +113,9 @@ length-decides k l o =
     let a : k < 1 → ⊥ = λ z. o (inl z) in
     let b : 4 < k → ⊥ = λ z. o (inr z) in
     record { passes = λ e f. f (length-for k l e); fails = λ e f. not-both (length-fits k l (omega arith) (omega arith) f) e }
+
+pub timer-decides : (t : Timer) → Decides (timerFits t) (TimerRules t → ⊥)
+timer-decides t = record { passes = λ e o. o (timer-rules t e); fails = λ e r. not-both (timer-good t r) e }
 
 -- ---- one record
 
@@ -169,7 +173,8 @@ module _ (n : ℕ) (earlier : List (List ℕ)) (t : List ℕ) (w : 6 + lengthOf 
   PayloadRefused =
       Test 9 ((kindOf t ≡ 1) × (n < firstCell (payloadOf t) + cellCount (payloadOf t)))
       (Test 17 (NamesAgain earlier t)
-      (Test 10 ((kindOf t ≡ 1) × (cellsFit (blockCells (payloadOf t)) ≡ false)) (Test 3 ((kindOf t ≡ 2) × (ControlPayload (payloadOf t) → ⊥)) (BytesAfter t))))
+      (Test 10 ((kindOf t ≡ 1) × (cellsFit (blockCells (payloadOf t)) ≡ false)) (Test 3 ((kindOf t ≡ 2) × (RegistersPayload (payloadOf t) → ⊥))
+      (Test 18 ((kindOf t ≡ 2) × (TimerRules (timerOf (payloadOf t)) → ⊥)) (BytesAfter t)))))
 
   abbrev unnamed : Bool
   unnamed = unnamedCells earlier (payloadOf t)
@@ -183,18 +188,20 @@ module _ (n : ℕ) (earlier : List (List ℕ)) (t : List ℕ) (w : 6 + lengthOf 
       (λ x. tested (num t) unnamed _ BlockOverlap refl (omega arith) (again-decides earlier t e)
       (λ y. tested (num t) (cellsFit (blockCells (payloadOf t))) Accepted BlockCell refl (omega arith)
       (record { passes = λ z c. not-both z (c .1); fails = λ z. (e, z) })
-      (λ z. skip (λ c. let q = c .0 in omega arith) (end-gives t))))
+      (λ z. skip (λ c. let q = c .0 in omega arith) (skip (λ c. let q = c .0 in omega arith) (end-gives t)))))
 
   control-gives : kindOf t ≡ 2 → Gives (num t (judgeControl (payloadOf t))) PayloadRefused
-  unfolding judgeControl num
+  unfolding num
   control-gives e =
-      let l : length (payloadOf t) ≡ 20 = length-payload t w ∙ f .control e in
-      skip (λ c. let z = c .0 in omega arith)
+      rw (control-judged (payloadOf t))
+      (skip (λ c. let z = c .0 in omega arith)
       (skip (λ a. let z = a .here .kind in omega arith)
       (skip (λ c. let z = c .0 in omega arith)
-      (tested (num t) (controlGood (payloadOf t)) Accepted ControlField refl (omega arith)
-      (record { passes = λ x c. c .1 (control-payload-of (payloadOf t) l x); fails = λ x. (e, λ c. not-both (control-good (payloadOf t) c) x) })
-      (λ x. end-gives t))))
+      (tested (num t) (controlGood (payloadOf t)) _ ControlField refl (omega arith)
+      (record { passes = λ x c. c .1 (registers-of (payloadOf t) x); fails = λ x. (e, λ c. not-both (registers-good (payloadOf t) c) x) })
+      (λ x. tested (num t) (timerFits (timerOf (payloadOf t))) Accepted TimerField refl (omega arith)
+      (record { passes = λ y c. timer-decides (timerOf (payloadOf t)) .passes y (c .1); fails = λ y. (e, timer-decides (timerOf (payloadOf t)) .fails y) })
+      (λ y. end-gives t))))))
 
   payload-gives : Gives (num t (judgePayload n unnamed (kindOf t) (payloadOf t))) PayloadRefused
   unfolding judgePayload
@@ -205,7 +212,7 @@ module _ (n : ℕ) (earlier : List (List ℕ)) (t : List ℕ) (w : 6 + lengthOf 
       at (no o) (yes e) = rw (ne-eqb (kindOf t) 1 o, eq-eqb (kindOf t) 2 e) (control-gives e)
       at (no o) (no x) =
           rw (ne-eqb (kindOf t) 1 o, ne-eqb (kindOf t) 2 x)
-          (skip (λ c. o (c .0)) (skip (λ a. o (a .here .kind)) (skip (λ c. o (c .0)) (skip (λ c. x (c .0)) (end-gives t)))))
+          (skip (λ c. o (c .0)) (skip (λ a. o (a .here .kind)) (skip (λ c. o (c .0)) (skip (λ c. x (c .0)) (skip (λ c. x (c .0)) (end-gives t))))))
 
 -- the verdict on a record after the records `earlier`
 abbrev judgedRecord : ℕ → Bool → List (List ℕ) → List ℕ → Verdict
@@ -230,7 +237,7 @@ verdicts : List Verdict
 verdicts =
     Accepted ∷ Rejected StoreSize ∷ Rejected CellValue ∷ Rejected ControlField ∷ Rejected Lines ∷ Rejected Budget ∷ Rejected TapeEnds ∷ Rejected RecordKind
     ∷ Rejected RecordLength ∷ Rejected BlockPlace ∷ Rejected BlockCell ∷ Rejected RecordOrder ∷ Rejected TapeLength ∷ Rejected Device
-    ∷ Rejected RemarkLength ∷ Rejected WrittenLength ∷ Rejected BufferLength ∷ Rejected BlockOverlap ∷ []
+    ∷ Rejected RemarkLength ∷ Rejected WrittenLength ∷ Rejected BufferLength ∷ Rejected BlockOverlap ∷ Rejected TimerField ∷ []
 
 told : (v : Verdict) → getD verdicts (verdictNumber v) Accepted ≡ v
 unfolding verdicts
@@ -252,6 +259,7 @@ told (Rejected RemarkLength) = refl
 told (Rejected WrittenLength) = refl
 told (Rejected BufferLength) = refl
 told (Rejected BlockOverlap) = refl
+told (Rejected TimerField) = refl
 
 same-number : (v w : Verdict) → verdictNumber v ≡ verdictNumber w → v ≡ w
 same-number v w e = sym (told v) ∙ ap (λ (k : ℕ). getD verdicts k Accepted) e ∙ told w
@@ -339,11 +347,11 @@ exactly v P q g = (λ e. g (refusalNumber q) .1 (positive q) (ap verdictNumber e
 pub tape-numbers : TapeNumbers
 tape-numbers n t q = exactly (judgeTape n t) (TapeRefused n t) q (tape-gives n t)
 
-verdict-by : (v : Verdict) (t u s : List ℕ) (c : Control) → loadedBy v t u s c .state .verdict ≡ v
+verdict-by : (v : Verdict) (t u s : List ℕ) (c : Record) → loadedBy v t u s c .state .verdict ≡ v
 verdict-by (Rejected q) t u s c = refl
 verdict-by Accepted t u s c = refl
 
-verdict-is : (k : Call) (t s : List ℕ) (c : Control) → called k t s c .state .verdict ≡ judgeLoad t s
+verdict-is : (k : Call) (t s : List ℕ) (c : Record) → called k t s c .state .verdict ≡ judgeLoad t s
 verdict-is k t s c = rw (called-is k t s c) (verdict-by (judgeLoad t s) t (under k s) s c)
 
 pub load-numbers : LoadNumbers

@@ -1,4 +1,4 @@
--- What the records of a tape hold, by their layout (document 01, "Load tape"). Neither judge nor loader is named here.
+-- What the records of a tape hold, by their layout (document 01, "Load tape"; document 02, E6). Neither judge nor loader is named here.
 -- Assumes nothing.
 use Prim.Native.Nat.{ℕ, _+_, _-_, _*_}
 use mathlib.Core.Path.{_≡_}
@@ -7,6 +7,8 @@ use mathlib.Core.List.{List, [], _∷_}
 use mathlib.Core.Logic.{_⊎_}
 use lib.ListN.{length, getD}
 use Rattle.machine.specs.declared.Control.{Control}
+use Rattle.machine.specs.declared.Timer.{Timer}
+use Rattle.machine.specs.declared.Record.{Record}
 use Rattle.definition_tape.specs.declared.Span.{Span}
 use Rattle.definition_tape.specs.Layout.{numberAt, flagsOf}
 use Rattle.definition_tape.specs.Blocks.{Block, Names, Named}
@@ -67,6 +69,16 @@ pub record ControlFields (p : List ℕ) (c : Control) : Type 0 where
   pub pr : c .pr ≡ getD p 16 0
   pub ex : c .ex ≡ getD p 17 0
   pub flags : flagsOf p ≡ 1 * oneIf (c .monitor) + 2 * oneIf (c .enabled) + 4 * oneIf (c .reset)
+
+-- 20 bytes: the rest zero; 33: elapsed, period and phase (4 each), the line (1) (document 02, E6)
+pub data TimerFields (p : List ℕ) (t : Timer) : Type 0 where
+  zeroes : length p ≡ 20 → t ≡ record { elapsed = 0; period = 0; phase = 0; line = 0 } → TimerFields p t
+  fields : length p ≡ 33 → t .elapsed ≡ numberAt p 20 → t .period ≡ numberAt p 24 → t .phase ≡ numberAt p 28 → t .line ≡ getD p 32 0 → TimerFields p t
+
+-- the whole control record
+pub record RecordFields (p : List ℕ) (r : Record) : Type 0 where
+  pub registers : ControlFields p (r .registers)
+  pub timer : TimerFields p (r .timer)
 
 -- ---- kind 4, remark
 

@@ -1,13 +1,15 @@
 -- A tape for a store of n cells, built from its records: blocks and remarks, one control record, the end; no cell is named twice. The judge is not
 -- named here.
 -- Assumes nothing.
-use Prim.Native.Nat.{ℕ, _+_, _*_, _%_, _≤_}
+use Prim.Native.Nat.{ℕ, _+_, _*_, _%_, _≤_, _<_}
 use mathlib.Core.Path.{_≡_}
 use mathlib.Core.Bool.{true}
 use mathlib.Core.List.{List, [], _∷_, _++_}
+use mathlib.Core.Logic.{_⊎_}
 use lib.ListN.{length, getD}
+use Rattle.machine.specs.declared.Timer.{Timer}
 use Rattle.acceptance.specs.Accept.{cellsFit, controlFits}
-use Rattle.definition_tape.specs.Layout.{numberAt, firstCell, cellCount, blockCells, flagsOf, lastByte, controlOf}
+use Rattle.definition_tape.specs.Layout.{numberAt, firstCell, cellCount, blockCells, flagsOf, zeroByte, controlOf, timerOf}
 use Rattle.definition_tape.specs.Blocks.{Block, NamedOnce}
 
 -- a record's header: the payload's length l (4 bytes), the kind k (2 bytes)
@@ -23,12 +25,22 @@ pub record BlockPayload (n : ℕ) (p : List ℕ) : Type 0 where
   pub place : firstCell p + cellCount p ≤ n
   pub cells : cellsFit (blockCells p) ≡ true
 
--- a control record's payload: fields within their widths and rules, flags of three bits, a zero byte
-pub record ControlPayload (p : List ℕ) : Type 0 where
-  pub bytes : length p ≡ 20
+-- the first 20 bytes of a control record's payload: fields within their widths and rules, flags of three bits, a zero byte
+pub record RegistersPayload (p : List ℕ) : Type 0 where
   pub flags : flagsOf p ≤ 7
-  pub zero : lastByte p ≡ 0
+  pub zero : zeroByte p ≡ 0
   pub fields : controlFits (controlOf p) ≡ true
+
+-- the interval timer (document 02, E6): a line of 3 to 23 when the period is not 0, and a phase below a nonzero period
+pub record TimerRules (t : Timer) : Type 0 where
+  pub line : 0 < t .period → (3 ≤ t .line) × (t .line ≤ 23)
+  pub phase : 0 < t .period → t .phase < t .period
+
+-- a control record's payload: 20 bytes, or 33 with the timer
+pub record ControlPayload (p : List ℕ) : Type 0 where
+  pub bytes : (length p ≡ 20) ⊎ (length p ≡ 33)
+  pub registers : RegistersPayload p
+  pub timer : TimerRules (timerOf p)
 
 -- from a record on
 pub data Records (n : ℕ) : List ℕ → Type 0 where

@@ -1,4 +1,4 @@
--- The number of a tape's refusal (document 01, "Who can be refused, for what"; document 02, E4), apart from the judge.
+-- The number of a tape's refusal (document 01, "Who can be refused, for what"; document 02, E4 and E6), apart from the judge.
 -- Assumes nothing.
 use Prim.Native.Nat.{ℕ, _+_, _%_, _≤_, _<_}
 use mathlib.Core.Path.{_≡_}
@@ -8,8 +8,8 @@ use mathlib.Core.Logic.{_⊎_}
 use lib.ListN.{length}
 use lib.Dec.{eqb}
 use Rattle.acceptance.specs.Accept.{cellsFit}
-use Rattle.definition_tape.specs.Layout.{lengthOf, kindOf, payloadOf, restOf, firstCell, cellCount, blockCells, NamesCell}
-use Rattle.tape_promises.specs.Grammar.{ControlPayload}
+use Rattle.definition_tape.specs.Layout.{lengthOf, kindOf, payloadOf, restOf, firstCell, cellCount, blockCells, timerOf, NamesCell}
+use Rattle.tape_promises.specs.Grammar.{RegistersPayload, TimerRules}
 
 -- a test in a row of tests: k is its number where its condition is met, else what the tests after it say
 pub data Test (number : ℕ) (Condition : Type 0) (Others : ℕ → Type 0) (k : ℕ) : Type 0 where
@@ -27,7 +27,7 @@ OutOfOrder false kind = kind ≡ 3
 
 pub record LengthFor (kind l : ℕ) : Type 0 where
   pub block : kind ≡ 1 → (l % 4 ≡ 0) × (8 ≤ l)
-  pub control : kind ≡ 2 → l ≡ 20
+  pub control : kind ≡ 2 → (l ≡ 20) ⊎ (l ≡ 33)
   pub end : kind ≡ 3 → l ≡ 0
   pub remark : kind ≡ 4 → l ≤ 255
 
@@ -53,8 +53,9 @@ RecordRefused n after earlier t =
     (Test 9 ((kindOf t ≡ 1) × (n < firstCell (payloadOf t) + cellCount (payloadOf t)))
     (Test 17 (NamesAgain earlier t)
     (Test 10 ((kindOf t ≡ 1) × (cellsFit (blockCells (payloadOf t)) ≡ false))
-    (Test 3 ((kindOf t ≡ 2) × (ControlPayload (payloadOf t) → ⊥))
-    (Test 11 ((kindOf t ≡ 3) × (6 + lengthOf t < length t)) passed)))))))))
+    (Test 3 ((kindOf t ≡ 2) × (RegistersPayload (payloadOf t) → ⊥))
+    (Test 18 ((kindOf t ≡ 2) × (TimerRules (timerOf (payloadOf t)) → ⊥))
+    (Test 11 ((kindOf t ≡ 3) × (6 + lengthOf t < length t)) passed))))))))))
 
 -- record by record from the left: good ones, none of them the end, then one that is refused
 pub data RecordsRefused (n : ℕ) : Bool → List (List ℕ) → List ℕ → ℕ → Type 0 where

@@ -1,10 +1,12 @@
-// The records of a load tape, and the first one of a kind (document 01, "Load tape"). A record is handled by the tape from its header on.
+// The records of a load tape, and the first one of a kind (document 01, "Load tape"; document 02, E6). A record is handled by the tape from its header on.
 ghost use mathlib.Core.Path.{_≡_};
 ghost use Prim.Native.Nat.{_+_, _*_, _≤_, _<_};
 ghost use lib.ListN.{length};
-ghost use Rattle.definition_tape.specs.Layout.{numberAt, lengthOf, kindOf, payloadOf, recordsOf, firstOf, controlOf};
+ghost use Rattle.definition_tape.specs.Layout.{numberAt, lengthOf, kindOf, payloadOf, recordsOf, firstOf, controlOf, timerOf, controlRecordOf};
 ghost use Rattle.tape_records.specs.Looks.{lookFor};
 use machine::Control;
+use machine::Record;
+use machine::Timer;
 
 fn joined(b0: u8, b1: u8, b2: u8, b3: u8) -> u32
     ensures { λ r. ⌜ r ≡ b0 + 256 * b1 + 65536 * b2 + 16777216 * b3 ⌝ }
@@ -57,7 +59,7 @@ pub fn payload<'a>(t: &'a [u8]) -> &'a [u8]
     &t[6..end]
 }
 
-// The record that a control payload holds.
+// The control registers that a control payload holds.
 pub fn control_of(p: &[u8]) -> Control
     requires { ⌜ 20 ≤ length (now p) ⌝ }
     ensures { λ r. ⌜ r ≡ controlOf (now (p .entry)) ⌝ }
@@ -72,6 +74,34 @@ pub fn control_of(p: &[u8]) -> Control
         monitor: p[18] % 2 == 1,
         enabled: p[18] / 2 % 2 == 1,
         reset: p[18] / 4 % 2 == 1,
+    }
+}
+
+// The timer that it holds: of 20 bytes four zeroes.
+pub fn timer_of(p: &[u8]) -> Timer
+    ensures { λ r. ⌜ r ≡ timerOf (now (p .entry)) ⌝ }
+{
+    if p.len() < 33 {
+        return Timer::off();
+    }
+    Timer {
+        elapsed: number_at(p, 20),
+        period: number_at(p, 24),
+        phase: number_at(p, 28),
+        line: p[32],
+    }
+}
+
+// The control record that it holds.
+pub fn record_of(p: &[u8]) -> Record
+    requires { ⌜ 20 ≤ length (now p) ⌝ }
+    ensures { λ r. ⌜ r ≡ controlRecordOf (now (p .entry)) ⌝ }
+{
+    let c = control_of(p);
+    let t = timer_of(p);
+    Record {
+        registers: c,
+        timer: t,
     }
 }
 

@@ -1,13 +1,15 @@
 -- Bytes put into a buffer, one after the other. Assumes nothing.
-use Prim.Native.Nat.{ℕ, _+_, _*_, _≤_, _<_}
+use Prim.Native.Nat.{ℕ, _+_, _*_, _%_, _≤_, _<_}
 use mathlib.Core.Path.{_≡_, refl, sym, ap, _∙_}
 use mathlib.Core.List.{List, [], _∷_, _++_, append-assoc}
 use native.Mathlib.Numerals.{add-one, add-two, add-three}
+use native.Mathlib.Nat.{mod-eq-of-lt}
 use native.Mathlib.Omega.{arith}
 use lib.ListN.{length, take, drop, getD, set, length-append, length-take, length-drop, take-append-drop}
 use lib.Seq.{take-at, drop-at, drop-drop, length-take-le, set-split, sets-eq, take-suc, take-length}
-use Rattle.machine.specs.declared.Control.{Control}
-use Rattle.definition_tape.specs.Bytes.{bytes2, bytes4, headerBytes, recordBytes, cellsBytes, blockBytes, stateBytes, controlBytes}
+use Rattle.machine.specs.declared.Timer.{Timer}
+use Rattle.machine.specs.declared.Record.{Record}
+use Rattle.definition_tape.specs.Bytes.{bytes2, bytes4, headerBytes, recordBytes, cellsBytes, blockBytes, stateBytes, timerBytes, controlBytes}
 use Rattle.definition_tape.specs.Blocks.{Block}
 use Rattle.tape_write.specs.Steps.{put, stretchBytes}
 use Rattle.definition_tape.proofs.Bytes.{length-cells-bytes, length-block}
@@ -71,16 +73,27 @@ pub header-put : (o₀ o₁ o₂ : List ℕ) (at k l : ℕ) → at ≤ length o�
 unfolding headerBytes
 header-put o₀ o₁ o₂ at k l h e f = put-then o₀ o₁ o₂ at (at + 4) (bytes4 l) (bytes2 k) e f refl h
 
-pub control-put : (o₀ o₁ o₂ o₃ o₄ o₅ o₆ : List ℕ) (at : ℕ) (c : Control) → at ≤ length o₀ → o₁ ≡ put o₀ at (headerBytes 2 20) → o₂ ≡ put o₁ (at + 6) (bytes4 (c .ic))
-    → o₃ ≡ put o₂ (at + 10) (bytes4 (c .ir)) → o₄ ≡ put o₃ (at + 14) (bytes4 (c .im)) → o₅ ≡ put o₄ (at + 18) (bytes4 (c .pending)) → o₆ ≡ put o₅ (at + 22) (stateBytes c)
-    → o₆ ≡ put o₀ at (recordBytes 2 (controlBytes c))
+pub timer-put : (o₀ o₁ o₂ o₃ : List ℕ) (at x : ℕ) (t : Timer) → at + 13 ≤ length o₀ → length o₃ ≡ length o₀ → x ≡ t .line → x < 256 → o₁ ≡ put o₀ at (bytes4 (t .elapsed))
+    → o₂ ≡ put o₁ (at + 4) (bytes4 (t .period)) → o₃ ≡ put o₂ (at + 8) (bytes4 (t .phase)) → set o₃ (at + 12) x ≡ put o₀ at (timerBytes t)
+timer-put o₀ o₁ o₂ o₃ at x t h k e l e₁ e₂ e₃ =
+    let b : at ≤ length o₀ = omega arith in
+    let m : t .line % 256 ≡ x = rw (← e) (mod-eq-of-lt l) in
+    let f₂ = put-then o₀ o₁ o₂ at (at + 4) _ _ e₁ e₂ refl b in
+    let f₃ = put-then o₀ o₂ o₃ at (at + 8) _ _ f₂ e₃ refl b in
+    rw m (put-then o₀ o₃ _ at (at + 12) _ _ f₃ (one-store o₃ (at + 12) x (omega arith)) refl b)
+
+pub control-put : (o₀ o₁ o₂ o₃ o₄ o₅ o₆ o₇ : List ℕ) (at : ℕ) (r : Record) → at ≤ length o₀ → o₁ ≡ put o₀ at (headerBytes 2 33)
+    → o₂ ≡ put o₁ (at + 6) (bytes4 (r .registers .ic)) → o₃ ≡ put o₂ (at + 10) (bytes4 (r .registers .ir)) → o₄ ≡ put o₃ (at + 14) (bytes4 (r .registers .im))
+    → o₅ ≡ put o₄ (at + 18) (bytes4 (r .registers .pending)) → o₆ ≡ put o₅ (at + 22) (stateBytes (r .registers)) → o₇ ≡ put o₆ (at + 26) (timerBytes (r .timer))
+    → o₇ ≡ put o₀ at (recordBytes 2 (controlBytes r))
 unfolding headerBytes recordBytes controlBytes
-control-put o₀ o₁ o₂ o₃ o₄ o₅ o₆ at c h e₁ e₂ e₃ e₄ e₅ e₆ =
+control-put o₀ o₁ o₂ o₃ o₄ o₅ o₆ o₇ at r h e₁ e₂ e₃ e₄ e₅ e₆ e₇ =
     let f₂ = put-then o₀ o₁ o₂ at (at + 6) _ _ e₁ e₂ refl h in
     let f₃ = put-then o₀ o₂ o₃ at (at + 10) _ _ f₂ e₃ refl h in
     let f₄ = put-then o₀ o₃ o₄ at (at + 14) _ _ f₃ e₄ refl h in
     let f₅ = put-then o₀ o₄ o₅ at (at + 18) _ _ f₄ e₅ refl h in
-    put-then o₀ o₅ o₆ at (at + 22) _ _ f₅ e₆ refl h
+    let f₆ = put-then o₀ o₅ o₆ at (at + 22) _ _ f₅ e₆ refl h in
+    put-then o₀ o₆ o₇ at (at + 26) _ _ f₆ e₇ refl h
 
 -- ---- a text
 

@@ -7,7 +7,7 @@ use mathlib.Core.List.{List, _++_, append-assoc, append-nil}
 use native.Mathlib.Omega.{arith}
 use borrow.Author.Tests.{leb-true, le-leb, lt-leb}
 use lib.ListN.{length, length-append}
-use Rattle.machine.specs.declared.Control.{Control}
+use Rattle.machine.specs.declared.Record.{Record}
 use Rattle.machine.specs.declared.Refusal.{Refusal}
 use Rattle.machine.specs.declared.Refusal.the-variants.{RemarkLength, WrittenLength, BufferLength}
 use Rattle.machine.specs.declared.Verdict.{Verdict}
@@ -51,9 +51,9 @@ remark-put o₀ o₁ o₂ b t e f g = rw e (put-then o₀ o₁ o₂ 0 6 (headerB
 
 -- ---- the parts of the tape
 
-module _ (s : List ℕ) (c : Control) (m : Option (List ℕ)) where
+module _ (s : List ℕ) (c : Record) (m : Option (List ℕ)) where
   pub parts-put : (o₀ o₁ o₂ o₃ o₄ : List ℕ) (at end : ℕ) → o₁ ≡ put o₀ 0 (remarkRecord m) → at ≡ length (remarkRecord m) → o₂ ≡ put o₁ at (blocksBytes (storeBlocks s))
-      → end ≡ at + length (blocksBytes (storeBlocks s)) → o₃ ≡ put o₂ end (recordBytes 2 (controlBytes c)) → o₄ ≡ put o₃ (end + 26) (headerBytes 3 0)
+      → end ≡ at + length (blocksBytes (storeBlocks s)) → o₃ ≡ put o₂ end (recordBytes 2 (controlBytes c)) → o₄ ≡ put o₃ (end + 39) (headerBytes 3 0)
       → o₄ ≡ put o₀ 0 (tapeOf s c m)
   unfolding tapeOf recordBytes
   parts-put o₀ o₁ o₂ o₃ o₄ at end e₁ a e₂ b e₃ e₄ =
@@ -67,7 +67,7 @@ module _ (s : List ℕ) (c : Control) (m : Option (List ℕ)) where
       let l₃ = length-append (r ++ bs) k in
       let f₂ = put-then o₀ o₁ o₂ 0 at r bs e₁ e₂ (omega arith) (omega arith) in
       let f₃ = put-then o₀ o₂ o₃ 0 end (r ++ bs) k f₂ e₃ (omega arith) (omega arith) in
-      let f₄ = put-then o₀ o₃ o₄ 0 (end + 26) (r ++ bs ++ k) h f₃ e₄ (omega arith) (omega arith) in
+      let f₄ = put-then o₀ o₃ o₄ 0 (end + 39) (r ++ bs ++ k) h f₃ e₄ (omega arith) (omega arith) in
       f₄ ∙ ap (put o₀ 0) (append-assoc (r ++ bs) k h ∙ append-assoc r bs (k ++ h) ∙ ap (λ (t : List ℕ). r ++ (bs ++ (k ++ t))) (sym (append-nil h)))
 
   -- ---- the ways out

@@ -6,7 +6,7 @@ use mathlib.Core.List.{List, [], _∷_, _++_}
 use mathlib.Core.Option.{Option}
 use lib.ListN.{length, take, drop}
 use lib.Dec.{eqb}
-use Rattle.machine.specs.declared.Control.{Control}
+use Rattle.machine.specs.declared.Record.{Record}
 use Rattle.definition_tape.specs.Blocks.{blocksFrom}
 use Rattle.definition_tape.specs.Bytes.{recordBytes, blockBytes, blocksBytes, tapeOf}
 use Rattle.definition_tape.specs.Writing.{judgeParts, Writing, writingBy}
@@ -32,6 +32,6 @@ stretchBytes i cs = recordBytes 1 (blockBytes (record { first = i; cells = cs })
 abbrev pub blockSize : ℕ → ℕ
 blockSize k = 10 + 4 * k
 
--- what is written of a machine that passed 1 to 3
-unfoldable pub writtenAs : List ℕ → Control → Option (List ℕ) → List ℕ → Writing
+-- what is written of a machine that passed 1, 2, 3 and 18
+unfoldable pub writtenAs : List ℕ → Record → Option (List ℕ) → List ℕ → Writing
 writtenAs s c m out = writingBy (judgeParts s c m (length out)) (tapeOf s c m) out

@@ -1,4 +1,4 @@
-// Writing tapes: a machine and its remark into a lent buffer (document 02, E2). The first pass over the store counts the tape's bytes, the second
+// Writing tapes: a machine and its remark into a lent buffer (document 02, E2 and E6). The first pass over the store counts the tape's bytes, the second
 // writes them. A function that writes leaves all other bytes of the buffer as they are; where it takes no place it begins at the front.
 ghost use mathlib.Core.Path.{_≡_};
 ghost use mathlib.Core.Bool.{true};
@@ -6,13 +6,15 @@ ghost use Prim.Native.Nat.{_+_, _*_, _%_, _≤_, _<_};
 ghost use lib.ListN.{length, getD, drop};
 ghost use Rattle.acceptance.specs.Accept.{mostCells};
 ghost use Rattle.definition_tape.specs.Blocks.{stretch, storeBlocks};
-ghost use Rattle.definition_tape.specs.Bytes.{bytes2, bytes4, headerBytes, recordBytes, cellsBytes, blocksBytes, flag, flagsByte, stateBytes, controlBytes, remarkRecord, tapeOf};
+ghost use Rattle.definition_tape.specs.Bytes.{bytes2, bytes4, headerBytes, recordBytes, cellsBytes, blocksBytes, flag, flagsByte, stateBytes, timerBytes, controlBytes, remarkRecord, tapeOf};
 ghost use Rattle.definition_tape.specs.Writing.{remarkOf, remarkFits, refusedWriting, writing};
 ghost use Rattle.tape_write.specs.Steps.{put, blocksAfter, allZero, stretchBytes, blockSize, writtenAs};
 use definition_tape::MOST_BYTES;
 use definition_tape::Written;
 use machine::Control;
+use machine::Record;
 use machine::Refusal;
+use machine::Timer;
 use machine::Verdict;
 
 // How many cells are tested for zero together; such a part of the store begins at a multiple of it.
@@ -200,16 +202,29 @@ fn put_state(out: &mut [u8], at: usize, c: Control)
     out[at + 3] = 0;
 }
 
-fn put_control(out: &mut [u8], at: usize, c: Control)
-    requires { ⌜ at + 26 ≤ length (now out) ⌝ }
-    ensures { λ _. ⌜ now (out .exit) ≡ put (now (out .entry)) at (recordBytes 2 (controlBytes c)) ⌝ }
+// Elapsed time, period, phase, line.
+fn put_timer(out: &mut [u8], at: usize, t: Timer)
+    requires { ⌜ at + 13 ≤ length (now out) ⌝ }
+    ensures { λ _. ⌜ now (out .exit) ≡ put (now (out .entry)) at (timerBytes t) ⌝ }
 {
-    put_header(out, at, 2, 20);
+    put_number(out, at, t.elapsed);
+    put_number(out, at + 4, t.period);
+    put_number(out, at + 8, t.phase);
+    out[at + 12] = t.line;
+}
+
+fn put_control(out: &mut [u8], at: usize, r: Record)
+    requires { ⌜ at + 39 ≤ length (now out) ⌝ }
+    ensures { λ _. ⌜ now (out .exit) ≡ put (now (out .entry)) at (recordBytes 2 (controlBytes r)) ⌝ }
+{
+    let c = r.registers;
+    put_header(out, at, 2, 33);
     put_number(out, at + 6, c.ic);
     put_number(out, at + 10, c.ir);
     put_number(out, at + 14, c.im);
     put_number(out, at + 18, c.pending);
     put_state(out, at + 22, c);
+    put_timer(out, at + 26, r.timer);
 }
 
 // ---- the remark
@@ -256,25 +271,25 @@ fn put_remark(out: &mut [u8], given: bool, text: &[u8])
 
 // ---- the tape
 
-fn tape_length(store: &[u32], c: Control, given: bool, text: &[u8]) -> usize
+fn tape_length(store: &[u32], r: Record, given: bool, text: &[u8]) -> usize
     requires { ⌜ (length (now store) ≤ mostCells) × (remarkFits (remarkOf given (now text)) ≡ true) ⌝ }
-    ensures { λ r. ⌜ r ≡ length (tapeOf (now (store .entry)) c (remarkOf given (now (text .entry)))) ⌝ }
+    ensures { λ n. ⌜ n ≡ length (tapeOf (now (store .entry)) r (remarkOf given (now (text .entry)))) ⌝ }
 {
-    // 26 bytes of control record, 6 of end
-    remark_size(given, text) + blocks_length(store) + 32
+    // 39 bytes of control record, 6 of end
+    remark_size(given, text) + blocks_length(store) + 45
 }
 
 // The tape, of n bytes.
-fn put_tape(out: &mut [u8], n: usize, store: &[u32], c: Control, given: bool, text: &[u8])
-    requires { ⌜ (length (now store) ≤ mostCells) × (remarkFits (remarkOf given (now text)) ≡ true) × (n ≡ length (tapeOf (now store) c (remarkOf given (now text)))) × (n ≤ length (now out)) ⌝ }
-    ensures { λ _. ⌜ now (out .exit) ≡ put (now (out .entry)) 0 (tapeOf (now (store .entry)) c (remarkOf given (now (text .entry)))) ⌝ }
+fn put_tape(out: &mut [u8], n: usize, store: &[u32], r: Record, given: bool, text: &[u8])
+    requires { ⌜ (length (now store) ≤ mostCells) × (remarkFits (remarkOf given (now text)) ≡ true) × (n ≡ length (tapeOf (now store) r (remarkOf given (now text)))) × (n ≤ length (now out)) ⌝ }
+    ensures { λ _. ⌜ now (out .exit) ≡ put (now (out .entry)) 0 (tapeOf (now (store .entry)) r (remarkOf given (now (text .entry)))) ⌝ }
 {
     put_remark(out, given, text);
     let at = remark_size(given, text);
-    let end = n - 32;
+    let end = n - 45;
     put_blocks(out, at, end, store);
-    put_control(out, end, c);
-    put_header(out, end + 26, 3, 0);
+    put_control(out, end, r);
+    put_header(out, end + 39, 3, 0);
 }
 
 fn refused(q: Refusal) -> Written
@@ -286,22 +301,22 @@ fn refused(q: Refusal) -> Written
     }
 }
 
-fn write_machine(store: &[u32], c: Control, given: bool, text: &[u8], out: &mut [u8]) -> Written
+fn write_machine(store: &[u32], r: Record, given: bool, text: &[u8], out: &mut [u8]) -> Written
     requires { ⌜ length (now store) ≤ mostCells ⌝ }
-    ensures answer { λ r. ⌜ r ≡ writtenAs (now (store .entry)) c (remarkOf given (now (text .entry))) (now (out .entry)) .answer ⌝ }
-    ensures bytes { λ _. ⌜ now (out .exit) ≡ writtenAs (now (store .entry)) c (remarkOf given (now (text .entry))) (now (out .entry)) .bytes ⌝ }
+    ensures answer { λ w. ⌜ w ≡ writtenAs (now (store .entry)) r (remarkOf given (now (text .entry))) (now (out .entry)) .answer ⌝ }
+    ensures bytes { λ _. ⌜ now (out .exit) ≡ writtenAs (now (store .entry)) r (remarkOf given (now (text .entry))) (now (out .entry)) .bytes ⌝ }
 {
     if !remark_fits(given, text) {
         return refused(Refusal::RemarkLength);
     }
-    let n = tape_length(store, c, given, text);
+    let n = tape_length(store, r, given, text);
     if n > MOST_BYTES {
         return refused(Refusal::WrittenLength);
     }
     if n > out.len() {
         return refused(Refusal::BufferLength);
     }
-    put_tape(out, n, store, c, given, text);
+    put_tape(out, n, store, r, given, text);
     Written {
         length: n,
         verdict: Verdict::Accepted,
@@ -309,13 +324,13 @@ fn write_machine(store: &[u32], c: Control, given: bool, text: &[u8], out: &mut 
 }
 
 // Writes the tape of a machine, with the remark `text` where one is given. On a refusal nothing changes.
-pub fn write(store: &[u32], control: Control, given: bool, text: &[u8], out: &mut [u8]) -> Written
+pub fn write(store: &[u32], control: Record, given: bool, text: &[u8], out: &mut [u8]) -> Written
     ensures answer { λ r. ⌜ r ≡ writing (now (store .entry)) control (remarkOf given (now (text .entry))) (now (out .entry)) .answer ⌝ }
     ensures bytes { λ _. ⌜ now (out .exit) ≡ writing (now (store .entry)) control (remarkOf given (now (text .entry))) (now (out .entry)) .bytes ⌝ }
 {
     let v = acceptance::judge_machine(store, control);
     match v {
         Verdict::Accepted => write_machine(store, control, given, text, out),
-        Verdict::Rejected(r) => refused(r),
+        Verdict::Rejected(q) => refused(q),
     }
 }

@@ -1,13 +1,15 @@
 -- A written tape is a row of bytes. Assumes nothing.
-use Prim.Native.Nat.{ℕ}
+use Prim.Native.Nat.{ℕ, _%_}
 use mathlib.Core.Path.{_≡_, refl}
 use mathlib.Core.Option.{Option, none, some}
 use mathlib.Core.List.{List, [], _∷_, _++_}
 use native.Mathlib.Omega.{arith}
 use lib.ListN.{length}
 use Rattle.machine.specs.declared.Control.{Control}
+use Rattle.machine.specs.declared.Timer.{Timer}
+use Rattle.machine.specs.declared.Record.{Record}
 use Rattle.definition_tape.specs.Blocks.{Block, storeBlocks}
-use Rattle.definition_tape.specs.Bytes.{bytes2, bytes4, headerBytes, recordBytes, cellsBytes, blockBytes, blocksBytes, stateBytes, controlBytes, remarkRecord, tapeOf}
+use Rattle.definition_tape.specs.Bytes.{bytes2, bytes4, headerBytes, recordBytes, cellsBytes, blockBytes, blocksBytes, stateBytes, timerBytes, controlBytes, remarkRecord, tapeOf}
 use Rattle.definition_tape.proofs.Bytes.{flags-small}
 use Rattle.writer_promises.specs.Claims.{AllBytes, TapeBytes}
 
@@ -42,12 +44,23 @@ state-bytes : (c : Control) → AllBytes (stateBytes c)
 unfolding AllBytes
 state-bytes c = let l = flags-small (c .monitor) (c .enabled) (c .reset) in (omega arith, (omega arith, (omega arith, (omega arith, tt))))
 
-control-bytes : (c : Control) → AllBytes (controlBytes c)
+line-byte : (n : ℕ) → AllBytes (n % 256 ∷ [])
+unfolding AllBytes
+line-byte n = (omega arith, tt)
+
+timer-bytes : (t : Timer) → AllBytes (timerBytes t)
+timer-bytes t =
+    both-bytes (bytes4 (t .elapsed)) _ (four (t .elapsed))
+    (both-bytes (bytes4 (t .period)) _ (four (t .period)) (both-bytes (bytes4 (t .phase)) _ (four (t .phase)) (line-byte (t .line))))
+
+control-bytes : (r : Record) → AllBytes (controlBytes r)
 unfolding controlBytes
-control-bytes c =
+control-bytes r =
+    let c = r .registers in
     both-bytes (bytes4 (c .ic)) _ (four (c .ic))
     (both-bytes (bytes4 (c .ir)) _ (four (c .ir))
-    (both-bytes (bytes4 (c .im)) _ (four (c .im)) (both-bytes (bytes4 (c .pending)) (stateBytes c) (four (c .pending)) (state-bytes c))))
+    (both-bytes (bytes4 (c .im)) _ (four (c .im))
+    (both-bytes (bytes4 (c .pending)) _ (four (c .pending)) (both-bytes (stateBytes c) (timerBytes (r .timer)) (state-bytes c) (timer-bytes (r .timer))))))
 
 remark-bytes : (m : Option (List ℕ)) → ((r : List ℕ) → m ≡ some r → AllBytes r) → AllBytes (remarkRecord m)
 unfolding remarkRecord AllBytes

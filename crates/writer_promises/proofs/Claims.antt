@@ -10,29 +10,29 @@ use borrow.Author.Tests.{leb-true, le-leb}
 use lib.ListN.{length, drop, length-append, length-drop}
 use lib.Dec.{leb}
 use store.Seg.{take-pre, drop-pre}
-use Rattle.machine.specs.declared.Control.{Control}
+use Rattle.machine.specs.declared.Record.{Record}
 use Rattle.machine.specs.Answers.{verdictNumber}
-use Rattle.machine.specs.declared.Refusal.the-variants.{StoreSize, CellValue, ControlField, RemarkLength, WrittenLength, BufferLength}
+use Rattle.machine.specs.declared.Refusal.the-variants.{StoreSize, CellValue, ControlField, TimerField, RemarkLength, WrittenLength, BufferLength}
 use Rattle.machine.specs.declared.Verdict.{Verdict}
 use Rattle.machine.specs.declared.Verdict.the-variants.{Accepted, Rejected}
-use Rattle.acceptance.specs.Accept.{sizeFits, cellsFit, controlFits, judgeStore, judgeMachine}
+use Rattle.acceptance.specs.Accept.{sizeFits, cellsFit, controlFits, timerFits, judgeStore, judgeRegisters, judgeTimer, judgeMachine}
 use Rattle.definition_tape.specs.Load.{Loaded, tapeCells, judgeThen, judgeLoad, cleared, loading}
 use Rattle.definition_tape.specs.Remark.{judgeReading, remarkSpan, remarkText}
 use Rattle.acceptance.proofs.Tests.{passed}
 use Rattle.definition_tape.proofs.Judged.{passed-then}
-use Rattle.definition_tape.proofs.Machines.{machine}
+use Rattle.definition_tape.proofs.Machines.{Machine, machine}
 use Rattle.definition_tape.proofs.Stretches.{front}
 use Rattle.definition_tape.proofs.Lengths.{length-tape}
 use Rattle.tape_promises.proofs.Claims.{accepted-tapes}
 use Rattle.tape_promises.proofs.Once.{once-blocks}
-use Rattle.tape_promises.proofs.Numbers.{Gives, gives-none, Decides, tested, not-both, above, size-decides, exactly}
+use Rattle.tape_promises.proofs.Numbers.{Gives, gives-none, Decides, tested, not-both, above, size-decides, timer-decides, exactly}
 use Rattle.definition_tape.specs.Blocks.{stretch, blocksFrom, storeBlocks}
-use Rattle.definition_tape.specs.Bytes.{recordBytes, blockBytes, blocksBytes, remarkRecord, tapeOf}
+use Rattle.definition_tape.specs.Bytes.{recordBytes, blockBytes, blocksBytes, remarkRecord, TimerWidths, tapeOf}
 use Rattle.definition_tape.specs.Writing.{remarkOf, remarkFits, Writable, judgeSize, judgeParts, judgeWriting, writing}
 use Rattle.writer_promises.specs.Claims.{occupied, ReadNumbers, ReadControl, WrittenTapeLength, GoodTape, RoundTrip, EqualTapes, WrittenTapes, TapeInBuffer, BufferAsGiven, remarkLength, tapeSize, LongRemark, WritingRefused, WritingNumbers}
 use Rattle.definition_tape.proofs.Bytes.{four-bytes, control-back, length-record, length-block}
 use Rattle.writer_promises.proofs.Records.{tape-once}
-use Rattle.writer_promises.proofs.Tapes.{tape-grammar, load-tape, tape-control, tape-remark}
+use Rattle.writer_promises.proofs.Tapes.{RecordFits, tape-grammar, load-tape, tape-control, tape-remark}
 
 -- ---- numbers and control records are read back
 
@@ -40,7 +40,7 @@ pub read-numbers : ReadNumbers
 read-numbers n h = four-bytes n h
 
 pub read-control : ReadControl
-read-control c e = control-back c e
+read-control c e w = control-back c e w
 
 -- ---- the length
 
@@ -74,43 +74,48 @@ written-tape-length s c m =
 
 -- ---- the judge
 
+record-fits : (s : List ℕ) (c : Record) → Machine s c → TimerWidths (c .timer) → RecordFits c
+record-fits s c h x = record { control = h .control; timer = h .timer; widths = x }
+
 pub good-tape : GoodTape
-good-tape s c m w =
+good-tape s c m w x =
     let h = machine s c (w .machine) in
-    let r = tape-grammar s c m (h .size) (h .cells) (h .control) (w .remark) in
-    accepted-tapes (length s) (tapeOf s c m) .1 (record { size = w .size; layout = r; once = once-blocks r (tape-once s c m w) })
+    let r = tape-grammar s c m (h .size) (h .cells) (record-fits s c h x) (w .remark) in
+    accepted-tapes (length s) (tapeOf s c m) .1 (record { size = w .size; layout = r; once = once-blocks r (tape-once s c m w x) })
 
-load-accepted : (s u : List ℕ) (c : Control) (m : Option (List ℕ)) → Writable s c m → length u ≡ length s → cellsFit u ≡ true → judgeLoad (tapeOf s c m) u ≡ Accepted
+load-accepted : (s u : List ℕ) (c : Record) (m : Option (List ℕ)) → Writable s c m → TimerWidths (c .timer) → length u ≡ length s → cellsFit u ≡ true
+    → judgeLoad (tapeOf s c m) u ≡ Accepted
 unfolding judgeLoad judgeStore
-load-accepted s u c m w l f = let h = machine s c (w .machine) in rw (l, h .fits, f) (good-tape s c m w)
+load-accepted s u c m w x l f = let h = machine s c (w .machine) in rw (l, h .fits, f) (good-tape s c m w x)
 
-reading-accepted : (s : List ℕ) (c : Control) (m : Option (List ℕ)) → Writable s c m → judgeReading (tapeOf s c m) (length s) ≡ Accepted
+reading-accepted : (s : List ℕ) (c : Record) (m : Option (List ℕ)) → Writable s c m → TimerWidths (c .timer) → judgeReading (tapeOf s c m) (length s) ≡ Accepted
 unfolding judgeReading
-reading-accepted s c m w = let h = machine s c (w .machine) in rw (h .fits) (good-tape s c m w)
+reading-accepted s c m w x = let h = machine s c (w .machine) in rw (h .fits) (good-tape s c m w x)
 
 -- ---- there and back
 
-pub same-machine : (s u : List ℕ) (c d : Control) (m : Option (List ℕ)) → Writable s c m → length u ≡ length s → cellsFit u ≡ true
+pub same-machine : (s u : List ℕ) (c d : Record) (m : Option (List ℕ)) → Writable s c m → TimerWidths (c .timer) → length u ≡ length s → cellsFit u ≡ true
     → loading (tapeOf s c m) u d ≡ record { cells = s; state = record { control = c; verdict = Accepted } }
 unfolding loading cleared tapeCells
-same-machine s u c d m w l f =
+same-machine s u c d m w x l f =
     let h = machine s c (w .machine) in
+    let r = record-fits s c h x in
     rw (
-      load-accepted s u c m w l f,
+      load-accepted s u c m w x l f,
       l,
-      load-tape s c m (h .size) (h .cells) (h .control) (w .remark),
-      tape-control s c m (h .size) (h .cells) (h .control) (w .remark),
+      load-tape s c m (h .size) (h .cells) r (w .remark),
+      tape-control s c m (h .size) (h .cells) r (w .remark),
     )
 
-pub same-remark : (s : List ℕ) (c : Control) (m : Option (List ℕ)) → Writable s c m
+pub same-remark : (s : List ℕ) (c : Record) (m : Option (List ℕ)) → Writable s c m → TimerWidths (c .timer)
     → remarkOf (remarkSpan (tapeOf s c m) (length s) .found) (remarkText (tapeOf s c m) (length s)) ≡ m
 unfolding remarkSpan remarkText
-same-remark s c m w =
+same-remark s c m w x =
     let h = machine s c (w .machine) in
-    rw (reading-accepted s c m w) (tape-remark s c m (h .size) (h .cells) (w .remark))
+    rw (reading-accepted s c m w x) (tape-remark s c m (h .size) (h .cells) (w .remark))
 
 pub round-trip : RoundTrip
-round-trip s u c d m w l f = (same-machine s u c d m w l f, same-remark s c m w)
+round-trip s u c d m w x l f = (same-machine s u c d m w x l f, same-remark s c m w x)
 
 -- ---- equal tapes
 
@@ -118,13 +123,13 @@ abbrev remarkIn : ℕ → List ℕ → Option (List ℕ)
 remarkIn n t = remarkOf (remarkSpan t n .found) (remarkText t n)
 
 pub equal-tapes : EqualTapes
-equal-tapes s₁ s₂ c₁ c₂ m₁ m₂ l w₁ w₂ = (
+equal-tapes s₁ s₂ c₁ c₂ m₁ m₂ l w₁ x₁ w₂ x₂ = (
   λ e.
       let f = machine s₁ c₁ (w₁ .machine) .cells in
-      let x = same-machine s₂ s₁ c₂ c₁ m₂ w₂ l f in
-      let y : remarkIn (length s₁) (tapeOf s₂ c₂ m₂) ≡ m₂ = rw l (same-remark s₂ c₂ m₂ w₂) in
-      let a = sym (same-machine s₁ s₁ c₁ c₁ m₁ w₁ refl f) ∙ ap (λ (t : List ℕ). loading t s₁ c₁) e ∙ x in
-      let b = sym (same-remark s₁ c₁ m₁ w₁) ∙ ap (remarkIn (length s₁)) e ∙ y in
+      let x = same-machine s₂ s₁ c₂ c₁ m₂ w₂ x₂ l f in
+      let y : remarkIn (length s₁) (tapeOf s₂ c₂ m₂) ≡ m₂ = rw l (same-remark s₂ c₂ m₂ w₂ x₂) in
+      let a = sym (same-machine s₁ s₁ c₁ c₁ m₁ w₁ x₁ refl f) ∙ ap (λ (t : List ℕ). loading t s₁ c₁) e ∙ x in
+      let b = sym (same-remark s₁ c₁ m₁ w₁ x₁) ∙ ap (remarkIn (length s₁)) e ∙ y in
       (ap (λ (r : Loaded). r .cells) a, ap (λ (r : Loaded). r .state .control) a, b),
   λ h. rw (h .0, h .1, h .2),
 )
@@ -167,18 +172,20 @@ unfolding remarkFits
 remark-decides none = record { passes = λ e z. absurd z; fails = λ e. not-both refl e }
 remark-decides (some r) = above (length r) 255
 
-writing-gives : (s : List ℕ) (c : Control) (m : Option (List ℕ)) (n : ℕ) → Gives (verdictNumber (judgeWriting s c m n)) (WritingRefused s c m n)
-unfolding judgeWriting judgeMachine judgeParts judgeSize
+writing-gives : (s : List ℕ) (c : Record) (m : Option (List ℕ)) (n : ℕ) → Gives (verdictNumber (judgeWriting s c m n)) (WritingRefused s c m n)
+unfolding judgeWriting judgeRegisters judgeMachine judgeParts judgeSize
 writing-gives s c m n =
     let l = written-tape-length s c m in
-    let F : Verdict → ℕ = λ v. verdictNumber (judgeThen v (judgeParts s c m n)) in
+    let G : Verdict → ℕ = λ v. verdictNumber (judgeThen v (judgeParts s c m n)) in
+    let F : Verdict → ℕ = λ v. G (judgeTimer v (c .timer)) in
     tested F (sizeFits (length s)) _ StoreSize refl (omega arith) (size-decides (length s))
     (λ a. tested F (cellsFit s) _ CellValue refl (omega arith) (record { passes = not-both; fails = λ e. e })
-    (λ b. tested F (controlFits c) Accepted ControlField refl (omega arith) (record { passes = not-both; fails = λ e. e })
-    (λ d. tested verdictNumber (remarkFits m) _ RemarkLength refl (omega arith) (remark-decides m)
+    (λ b. tested F (controlFits (c .registers)) Accepted ControlField refl (omega arith) (record { passes = not-both; fails = λ e. e })
+    (λ d. tested G (timerFits (c .timer)) Accepted TimerField refl (omega arith) (timer-decides (c .timer))
+    (λ x. tested verdictNumber (remarkFits m) _ RemarkLength refl (omega arith) (remark-decides m)
     (λ e. rw l
     (tested verdictNumber (leb (tapeSize s m) 65536) _ WrittenLength refl (omega arith) (above (tapeSize s m) 65536)
-    (λ f. tested verdictNumber (leb (tapeSize s m) n) Accepted BufferLength refl (omega arith) (above (tapeSize s m) n) (λ g. gives-none)))))))
+    (λ f. tested verdictNumber (leb (tapeSize s m) n) Accepted BufferLength refl (omega arith) (above (tapeSize s m) n) (λ g. gives-none))))))))
 
 pub writing-numbers : WritingNumbers
 writing-numbers s c m n q = exactly (judgeWriting s c m n) (WritingRefused s c m n) q (writing-gives s c m n)

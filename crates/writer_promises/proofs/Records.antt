@@ -8,12 +8,12 @@ use native.Mathlib.Omega.{arith}
 use borrow.Author.Tests.{leb-true}
 use lib.ListN.{length}
 use lib.Dec.{eqb, leb, ltb}
-use Rattle.machine.specs.declared.Control.{Control}
+use Rattle.machine.specs.declared.Record.{Record}
 use Rattle.acceptance.specs.Accept.{cellsFit, controlFits}
-use Rattle.definition_tape.specs.Layout.{kindOf, payloadOf, recordsOf, firstCell, cellCount, blockCells, controlOf}
+use Rattle.definition_tape.specs.Layout.{kindOf, payloadOf, recordsOf, firstCell, cellCount, blockCells, controlRecordOf}
 use Rattle.definition_tape.specs.Judge.{names, timesNamed}
 use Rattle.definition_tape.specs.Blocks.{Block, storeBlocks}
-use Rattle.definition_tape.specs.Bytes.{recordBytes, blockBytes, blocksBytes, controlBytes, remarkRecord, tapeOf}
+use Rattle.definition_tape.specs.Bytes.{recordBytes, blockBytes, blocksBytes, controlBytes, remarkRecord, TimerWidths, tapeOf}
 use Rattle.definition_tape.specs.Writing.{remarkFits, Writable}
 use Rattle.definition_tape.proofs.Bytes.{reads, length-block, first-back, block-back, length-control, control-back}
 use Rattle.definition_tape.proofs.Records.{records-none, records-more}
@@ -51,14 +51,14 @@ in-blocks n (b ∷ bs) t u f =
     ∙ in-block b (blocksBytes bs ++ t) (omega (arith, f .1)) (omega (arith, f .1)) (f .2)
     ∙ ap (λ (r : List Content). block b ∷ r) (in-blocks n bs t u (f .3))
 
-in-control : (c : Control) → controlFits c ≡ true → contentsOf (recordBytes 2 (controlBytes c) ++ recordBytes 3 []) ≡ control c ∷ end ∷ []
+in-control : (c : Record) → controlFits (c .registers) ≡ true → TimerWidths (c .timer) → contentsOf (recordBytes 2 (controlBytes c) ++ recordBytes 3 []) ≡ control c ∷ end ∷ []
 unfolding contentOf
-in-control c f =
+in-control c f w =
     let l = length-control c in
     let r = reads 2 (controlBytes c) (recordBytes 3 []) (omega arith) (omega arith) in
     let e = reads 3 [] [] (omega arith) (omega arith) in
     next 2 (controlBytes c) (recordBytes 3 []) (omega arith) (omega arith)
-    ∙ rw (r .kind, r .payload, control-back c f)
+    ∙ rw (r .kind, r .payload, control-back c f w)
     (ap (λ (x : List Content). control c ∷ x)
     (ap contentsOf (sym (append-nil (recordBytes 3 []))) ∙ next 3 [] [] (omega arith) (omega arith) ∙ rw (e .kind, records-none [] (omega arith))))
 
@@ -72,12 +72,12 @@ in-remark (some p) t f =
 
 pub tape-records : TapeRecords
 unfolding tapeOf
-tape-records s c m w =
+tape-records s c m w x =
     let h = machine s c (w .machine) in
     in-remark m _ (w .remark)
-    ∙ ap (λ (x : List Content). remarkContents m ++ x)
+    ∙ ap (λ (y : List Content). remarkContents m ++ y)
     (in-blocks (length s) (storeBlocks s) (recordBytes 2 (controlBytes c) ++ recordBytes 3 []) (h .size) (fit-blocks s (h .cells))
-    ∙ ap (λ (x : List Content). map block (storeBlocks s) ++ x) (in-control c (h .control)))
+    ∙ ap (λ (y : List Content). map block (storeBlocks s) ++ y) (in-control c (h .control) x))
 
 -- ---- the cells that the records name
 
@@ -97,7 +97,7 @@ names-content t i = at (eqb (kindOf t) 1) (eqb (kindOf t) 2) (eqb (kindOf t) 3)
   where
     at : (a b c : Bool)
         → cond a (cond (leb (firstCell (payloadOf t)) i) (ltb i (firstCell (payloadOf t) + cellCount (payloadOf t))) false) false
-        ≡ namesContent (cond a (block (record { first = firstCell (payloadOf t); cells = blockCells (payloadOf t) })) (cond b (control (controlOf (payloadOf t))) (cond c end (remark (payloadOf t))))) i
+        ≡ namesContent (cond a (block (record { first = firstCell (payloadOf t); cells = blockCells (payloadOf t) })) (cond b (control (controlRecordOf (payloadOf t))) (cond c end (remark (payloadOf t))))) i
     at true b c = rw (length-cells (payloadOf t) 4 (cellCount (payloadOf t)))
     at false true c = refl
     at false false true = refl
@@ -113,14 +113,14 @@ unfolding timesContents times
 times-blocks [] cs i = omega arith
 times-blocks (b ∷ bs) cs i = let e = times-blocks bs cs i in omega arith
 
-times-tape : (bs : List Block) (c : Control) (m : Option (List ℕ)) (i : ℕ) → timesContents (remarkContents m ++ (map block bs ++ (control c ∷ end ∷ []))) i ≡ times bs i
+times-tape : (bs : List Block) (c : Record) (m : Option (List ℕ)) (i : ℕ) → timesContents (remarkContents m ++ (map block bs ++ (control c ∷ end ∷ []))) i ≡ times bs i
 unfolding timesContents
 times-tape bs c none i = let e = times-blocks bs (control c ∷ end ∷ []) i in omega arith
 times-tape bs c (some r) i = let e = times-blocks bs (control c ∷ end ∷ []) i in omega arith
 
-pub tape-once : (s : List ℕ) (c : Control) (m : Option (List ℕ)) → Writable s c m → OnceAfter [] (tapeOf s c m)
+pub tape-once : (s : List ℕ) (c : Record) (m : Option (List ℕ)) → Writable s c m → TimerWidths (c .timer) → OnceAfter [] (tapeOf s c m)
 unfolding timesNamed
-tape-once s c m w i =
-    let e = times-contents (recordsOf (tapeOf s c m)) i ∙ ap (λ (cs : List Content). timesContents cs i) (tape-records s c m w) ∙ times-tape (storeBlocks s) c m i in
+tape-once s c m w x i =
+    let e = times-contents (recordsOf (tapeOf s c m)) i ∙ ap (λ (cs : List Content). timesContents cs i) (tape-records s c m w x) ∙ times-tape (storeBlocks s) c m i in
     let l = once-times (storeBlocks s) (rising-once 0 (storeBlocks s) (rising-blocks s .0)) i in
     omega arith

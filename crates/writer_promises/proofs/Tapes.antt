@@ -4,15 +4,16 @@ use mathlib.Core.Path.{_≡_, refl, sym, ap, subst, _∙_}
 use mathlib.Core.Bool.{Bool, true, false}
 use mathlib.Core.Option.{Option, none, some}
 use mathlib.Core.List.{List, [], _∷_, _++_, append-assoc, append-nil}
+use mathlib.Core.Logic.{inr}
 use native.Mathlib.Omega.{arith}
 use borrow.Author.Tests.{ne-eqb, leb-true}
 use lib.ListN.{length, drop, replicate, length-append}
 use lib.Seq.{append-snoc, take-append-seam, drop-append-seam}
 use lib.Dec.{ltb, eqb}
-use Rattle.machine.specs.declared.Control.{Control}
+use Rattle.machine.specs.declared.Record.{Record}
 use Rattle.machine.specs.declared.Verdict.the-variants.{Accepted}
-use Rattle.acceptance.specs.Accept.{cellsFit, controlFits}
-use Rattle.definition_tape.specs.Layout.{payloadOf, recordsOf, firstOf, flagsOf, lastByte, controlOf}
+use Rattle.acceptance.specs.Accept.{cellsFit, controlFits, timerFits}
+use Rattle.definition_tape.specs.Layout.{payloadOf, recordsOf, firstOf, flagsOf, zeroByte, controlOf, timerOf, controlRecordOf}
 use Rattle.tape_promises.specs.Grammar.{Header, BlockPayload, ControlPayload, Records, block-then, remark-then, control-then-end}
 use Rattle.definition_tape.specs.Load.{pasted, storedBlock, loadRecord, loadRecords, loadedControl}
 use Rattle.definition_tape.specs.Remark.{spanBy, textBy}
@@ -20,9 +21,10 @@ use Rattle.acceptance.proofs.Tests.{both}
 use Rattle.definition_tape.proofs.Firsts.{first-here, first-next, first-none}
 use Rattle.definition_tape.proofs.Loads.{load-more, load-none}
 use Rattle.definition_tape.specs.Blocks.{Block, stretch, blocksFrom, storeBlocks}
-use Rattle.definition_tape.specs.Bytes.{headerBytes, recordBytes, blockBytes, blocksBytes, controlBytes, remarkRecord, tapeOf}
+use Rattle.definition_tape.specs.Bytes.{headerBytes, recordBytes, blockBytes, blocksBytes, controlBytes, remarkRecord, TimerWidths, tapeOf}
 use Rattle.definition_tape.specs.Writing.{remarkOf, remarkFits}
 use Rattle.definition_tape.proofs.Bytes.{four-bytes, reads, length-block, first-back, count-back, block-back, length-control, control-back, flags-small}
+use Rattle.tape_promises.proofs.Grammars.{timer-rules}
 use Rattle.definition_tape.proofs.Stretches.{front, stretch-short}
 
 -- ---- blocks that a tape can hold, for a store of n cells
@@ -81,18 +83,35 @@ blocks-then n (b ∷ bs) t u f r =
     (block-payload n b u (f .0) (f .1) (f .2))
     (blocks-then n bs t u (f .3) r))
 
-flags-fit : (c : Control) → flagsOf (controlBytes c) ≤ 7
+-- a control record that passes 3 and 18, and whose timer fits its bytes
+pub record RecordFits (c : Record) : Type 0 where
+  pub control : controlFits (c .registers) ≡ true
+  pub timer : timerFits (c .timer) ≡ true
+  pub widths : TimerWidths (c .timer)
+
+flags-fit : (c : Record) → flagsOf (controlBytes c) ≤ 7
 unfolding controlBytes
-flags-fit c = flags-small (c .monitor) (c .enabled) (c .reset)
+flags-fit c = flags-small (c .registers .monitor) (c .registers .enabled) (c .registers .reset)
 
-last-zero : (c : Control) → lastByte (controlBytes c) ≡ 0
+twentieth-zero : (c : Record) → zeroByte (controlBytes c) ≡ 0
 unfolding controlBytes
-last-zero c = refl
+twentieth-zero c = refl
 
-control-payload : (c : Control) → controlFits c ≡ true → ControlPayload (controlBytes c)
-control-payload c f = record { bytes = length-control c; flags = flags-fit c; zero = last-zero c; fields = rw (control-back c f) f }
+read-back : (c : Record) → RecordFits c → controlRecordOf (controlBytes c) ≡ c
+read-back c f = control-back c (f .control) (f .widths)
 
-pub control-then : (n : ℕ) (c : Control) → controlFits c ≡ true → Records n (recordBytes 2 (controlBytes c) ++ recordBytes 3 [])
+control-payload : (c : Record) → RecordFits c → ControlPayload (controlBytes c)
+unfolding controlRecordOf
+control-payload c f =
+    let e : controlOf (controlBytes c) ≡ c .registers = ap (λ (r : Record). r .registers) (read-back c f) in
+    let g : timerOf (controlBytes c) ≡ c .timer = ap (λ (r : Record). r .timer) (read-back c f) in
+    record {
+      bytes = inr (length-control c);
+      registers = record { flags = flags-fit c; zero = twentieth-zero c; fields = ap controlFits e ∙ f .control };
+      timer = timer-rules (timerOf (controlBytes c)) (ap timerFits g ∙ f .timer);
+    }
+
+pub control-then : (n : ℕ) (c : Record) → RecordFits c → Records n (recordBytes 2 (controlBytes c) ++ recordBytes 3 [])
 unfolding recordBytes
 control-then n c f =
     let p = controlBytes c in
@@ -113,7 +132,7 @@ remark-before n (some p) t f r =
     subst (Records n) (sym (append-assoc (headerBytes 4 (length p)) p t))
     (remark-then (headerBytes 4 (length p)) p t (header 4 (length p) (omega arith) (omega arith)) l r)
 
-pub tape-grammar : (s : List ℕ) (c : Control) (m : Option (List ℕ)) → length s ≤ 8388608 → cellsFit s ≡ true → controlFits c ≡ true → remarkFits m ≡ true
+pub tape-grammar : (s : List ℕ) (c : Record) (m : Option (List ℕ)) → length s ≤ 8388608 → cellsFit s ≡ true → RecordFits c → remarkFits m ≡ true
     → Records (length s) (tapeOf s c m)
 unfolding tapeOf
 tape-grammar s c m l e f g =
@@ -216,7 +235,7 @@ skip-blocks n j (b ∷ bs) t u f h =
 
 -- ---- the control record and the end
 
-module _ (c : Control) where
+module _ (c : Record) where
   abbrev last-two : List ℕ
   last-two = recordBytes 2 (controlBytes c) ++ recordBytes 3 []
 
@@ -256,7 +275,7 @@ skip-remark (some r) t f =
     let l = leb-true (length r) 255 f in
     skip 4 r t (omega arith) (omega arith) 2 (λ e. omega arith)
 
-module _ (s : List ℕ) (c : Control) (m : Option (List ℕ)) (u : length s ≤ 8388608) (e : cellsFit s ≡ true) (f : controlFits c ≡ true) (g : remarkFits m ≡ true) where
+module _ (s : List ℕ) (c : Record) (m : Option (List ℕ)) (u : length s ≤ 8388608) (e : cellsFit s ≡ true) (f : RecordFits c) (g : remarkFits m ≡ true) where
   abbrev after-remark : List ℕ
   after-remark = blocksBytes (storeBlocks s) ++ (recordBytes 2 (controlBytes c) ++ recordBytes 3 [])
 
@@ -272,16 +291,16 @@ module _ (s : List ℕ) (c : Control) (m : Option (List ℕ)) (u : length s ≤ 
   pub tape-control : loadedControl (tapeOf s c m) ≡ c
   unfolding tapeOf loadedControl
   tape-control =
-      ap (λ (r : List ℕ). controlOf (payloadOf r))
+      ap (λ (r : List ℕ). controlRecordOf (payloadOf r))
       (skip-remark m after-remark g ∙ skip-blocks (length s) 2 (storeBlocks s) (recordBytes 2 (controlBytes c) ++ recordBytes 3 []) u (fit-blocks s e) (λ z. omega arith))
-      ∙ ap controlOf (first-control c)
-      ∙ control-back c f
+      ∙ ap controlRecordOf (first-control c)
+      ∙ read-back c f
 
 -- the remark
 abbrev pub textOf : List ℕ → Option (List ℕ)
 textOf w = remarkOf (spanBy Accepted w (firstOf 4 (recordsOf w)) .found) (textBy Accepted (firstOf 4 (recordsOf w)))
 
-pub tape-remark : (s : List ℕ) (c : Control) (m : Option (List ℕ)) → length s ≤ 8388608 → cellsFit s ≡ true → remarkFits m ≡ true → textOf (tapeOf s c m) ≡ m
+pub tape-remark : (s : List ℕ) (c : Record) (m : Option (List ℕ)) → length s ≤ 8388608 → cellsFit s ≡ true → remarkFits m ≡ true → textOf (tapeOf s c m) ≡ m
 unfolding tapeOf remarkRecord remarkFits
 tape-remark s c none u e g = rw (skip-blocks (length s) 4 (storeBlocks s) (recordBytes 2 (controlBytes c) ++ recordBytes 3 []) u (fit-blocks s e) (λ z. omega arith) ∙ no-remark c)
 tape-remark s c (some r) u e g =

@@ -1,4 +1,4 @@
--- What is proved of the written tapes besides the contracts (document 02, E2). Each has its proof under its name, as `round-trip`.
+-- What is proved of the written tapes besides the contracts (document 02, E2 and E6). Each has its proof under its name, as `round-trip`.
 -- Assumes nothing.
 use Prim.Native.Nat.{ℕ, zero, suc, _+_, _*_, _≤_, _<_}
 use mathlib.Core.Path.{_≡_}
@@ -7,18 +7,19 @@ use mathlib.Core.Option.{Option, none, some}
 use mathlib.Core.List.{List, [], _∷_, _++_, map}
 use lib.ListN.{length, getD, take, drop}
 use lib.Dec.{eqb}
-use Rattle.machine.specs.declared.Control.{Control}
+use Rattle.machine.specs.declared.Record.{Record}
 use Rattle.machine.specs.Answers.{refusalNumber}
 use Rattle.machine.specs.declared.Refusal.{Refusal}
 use Rattle.machine.specs.declared.Verdict.the-variants.{Accepted, Rejected}
-use Rattle.definition_tape.specs.Layout.{numberAt, kindOf, payloadOf, recordsOf, firstCell, blockCells, controlOf}
+use Rattle.definition_tape.specs.Layout.{numberAt, kindOf, payloadOf, recordsOf, firstCell, blockCells, controlRecordOf}
 use Rattle.definition_tape.specs.Judge.{judgeTape}
 use Rattle.definition_tape.specs.Load.{loading}
 use Rattle.definition_tape.specs.Remark.{remarkSpan, remarkText}
 use Rattle.acceptance.specs.Accept.{cellsFit, controlFits}
 use Rattle.definition_tape.specs.Blocks.{Block, Named, storeBlocks}
-use Rattle.definition_tape.specs.Bytes.{bytes4, controlBytes, tapeOf}
+use Rattle.definition_tape.specs.Bytes.{bytes4, controlBytes, TimerWidths, tapeOf}
 use Rattle.definition_tape.specs.Writing.{remarkOf, Writable, judgeWriting, writing}
+use Rattle.tape_promises.specs.Grammar.{TimerRules}
 use Rattle.tape_promises.specs.Numbers.{Test, passed, SizeRefused}
 
 -- how many cells are not zero
@@ -52,7 +53,7 @@ AllBytes (x ∷ t) = (x < 256) × AllBytes t
 
 pub data Content : Type 0 where
   block : Block → Content
-  control : Control → Content
+  control : Record → Content
   end : Content
   remark : List ℕ → Content
 
@@ -60,7 +61,7 @@ pub data Content : Type 0 where
 unfoldable pub contentOf : List ℕ → Content
 contentOf t =
     cond (eqb (kindOf t) 1) (block (record { first = firstCell (payloadOf t); cells = blockCells (payloadOf t) }))
-    (cond (eqb (kindOf t) 2) (control (controlOf (payloadOf t)))
+    (cond (eqb (kindOf t) 2) (control (controlRecordOf (payloadOf t)))
     (cond (eqb (kindOf t) 3) end (remark (payloadOf t))))
 
 -- no record for no remark
@@ -74,47 +75,49 @@ remarkContents (some r) = remark r ∷ []
 abbrev pub ReadNumbers : Type 0
 ReadNumbers = (n : ℕ) → n < 4294967296 → numberAt (bytes4 n) 0 ≡ n
 
--- a control record within its widths is read back
+-- a control record within its widths is read back, the timer's fields included, with a period of 0 too
 abbrev pub ReadControl : Type 0
-ReadControl = (c : Control) → controlFits c ≡ true → controlOf (controlBytes c) ≡ c
+ReadControl = (c : Record) → controlFits (c .registers) ≡ true → TimerWidths (c .timer) → controlRecordOf (controlBytes c) ≡ c
 
 -- the tape's records: the remark first if given, then the blocks, then control and end
 abbrev pub TapeRecords : Type 0
 TapeRecords =
-    (s : List ℕ) (c : Control) (m : Option (List ℕ)) → Writable s c m
+    (s : List ℕ) (c : Record) (m : Option (List ℕ)) → Writable s c m → TimerWidths (c .timer)
     → map contentOf (recordsOf (tapeOf s c m)) ≡ remarkContents m ++ (map block (storeBlocks s) ++ (control c ∷ end ∷ []))
 
 -- the tape is a row of bytes, where the remark is
 abbrev pub TapeBytes : Type 0
-TapeBytes = (s : List ℕ) (c : Control) (m : Option (List ℕ)) → ((r : List ℕ) → m ≡ some r → AllBytes r) → AllBytes (tapeOf s c m)
+TapeBytes = (s : List ℕ) (c : Record) (m : Option (List ℕ)) → ((r : List ℕ) → m ≡ some r → AllBytes r) → AllBytes (tapeOf s c m)
 
 -- the bytes of a remark: its record has a header of six
 abbrev pub remarkLength : Option (List ℕ) → ℕ
 remarkLength none = 0
 remarkLength (some r) = 6 + length r
 
--- the bytes of the tape: the remark's, 10 for each block, 4 for each cell that is not zero, 26 for the control record, 6 for the end
+-- the bytes of the tape: the remark's, 10 for each block, 4 for each cell that is not zero, 39 for the control record, 6 for the end
 abbrev pub tapeSize : List ℕ → Option (List ℕ) → ℕ
-tapeSize s m = remarkLength m + (10 * length (storeBlocks s) + 4 * occupied s) + 26 + 6
+tapeSize s m = remarkLength m + (10 * length (storeBlocks s) + 4 * occupied s) + 39 + 6
 
 abbrev pub WrittenTapeLength : Type 0
-WrittenTapeLength = (s : List ℕ) (c : Control) (m : Option (List ℕ)) → length (tapeOf s c m) ≡ tapeSize s m
+WrittenTapeLength = (s : List ℕ) (c : Record) (m : Option (List ℕ)) → length (tapeOf s c m) ≡ tapeSize s m
 
 -- the judge accepts the tape for a store of that size
 abbrev pub GoodTape : Type 0
-GoodTape = (s : List ℕ) (c : Control) (m : Option (List ℕ)) → Writable s c m → judgeTape (length s) (tapeOf s c m) ≡ Accepted
+GoodTape = (s : List ℕ) (c : Record) (m : Option (List ℕ)) → Writable s c m → TimerWidths (c .timer) → judgeTape (length s) (tapeOf s c m) ≡ Accepted
 
--- loading the tape into any store of equal size, whatever it held that 2 lets pass, gives the same machine, and the reader gives the same remark, or none
+-- loading the tape into any store of equal size, whatever it held that 2 lets pass, gives the same machine, elapsed, period, phase and line
+-- included, and the reader gives the same remark, or none
 abbrev pub RoundTrip : Type 0
 RoundTrip =
-    (s u : List ℕ) (c d : Control) (m : Option (List ℕ)) → Writable s c m → length u ≡ length s → cellsFit u ≡ true
+    (s u : List ℕ) (c d : Record) (m : Option (List ℕ)) → Writable s c m → TimerWidths (c .timer) → length u ≡ length s → cellsFit u ≡ true
     → (loading (tapeOf s c m) u d ≡ record { cells = s; state = record { control = c; verdict = Accepted } })
     × (remarkOf (remarkSpan (tapeOf s c m) (length s) .found) (remarkText (tapeOf s c m) (length s)) ≡ m)
 
 -- two machines of one size and their remarks have equal tapes exactly when they are equal
 abbrev pub EqualTapes : Type 0
 EqualTapes =
-    (s₁ s₂ : List ℕ) (c₁ c₂ : Control) (m₁ m₂ : Option (List ℕ)) → length s₁ ≡ length s₂ → Writable s₁ c₁ m₁ → Writable s₂ c₂ m₂
+    (s₁ s₂ : List ℕ) (c₁ c₂ : Record) (m₁ m₂ : Option (List ℕ)) → length s₁ ≡ length s₂ → Writable s₁ c₁ m₁ → TimerWidths (c₁ .timer) → Writable s₂ c₂ m₂
+    → TimerWidths (c₂ .timer)
     → (tapeOf s₁ c₁ m₁ ≡ tapeOf s₂ c₂ m₂ → (s₁ ≡ s₂) × (c₁ ≡ c₂) × (m₁ ≡ m₂))
     × ((s₁ ≡ s₂) × (c₁ ≡ c₂) × (m₁ ≡ m₂) → tapeOf s₁ c₁ m₁ ≡ tapeOf s₂ c₂ m₂)
 
@@ -129,13 +132,13 @@ RisingBlocks = (s : List ℕ) → Rising 0 (storeBlocks s) × HoldsCells s (stor
 -- a tape is written exactly if the machine and its remark have one and it goes into the buffer
 abbrev pub WrittenTapes : Type 0
 WrittenTapes =
-    (s : List ℕ) (c : Control) (m : Option (List ℕ)) (n : ℕ)
+    (s : List ℕ) (c : Record) (m : Option (List ℕ)) (n : ℕ)
     → (judgeWriting s c m n ≡ Accepted → Writable s c m × (length (tapeOf s c m) ≤ n)) × (Writable s c m × (length (tapeOf s c m) ≤ n) → judgeWriting s c m n ≡ Accepted)
 
 -- written: the tape stands at the front of the buffer, the answer is its length, and every other byte is as it came
 abbrev pub TapeInBuffer : Type 0
 TapeInBuffer =
-    (s : List ℕ) (c : Control) (m : Option (List ℕ)) (out : List ℕ) → judgeWriting s c m (length out) ≡ Accepted
+    (s : List ℕ) (c : Record) (m : Option (List ℕ)) (out : List ℕ) → judgeWriting s c m (length out) ≡ Accepted
     → let w = writing s c m out in
     (w .answer ≡ record { length = tapeSize s m; verdict = Accepted }) × (length (w .bytes) ≡ length out)
     × (take (tapeSize s m) (w .bytes) ≡ tapeOf s c m) × (drop (tapeSize s m) (w .bytes) ≡ drop (tapeSize s m) out)
@@ -143,7 +146,7 @@ TapeInBuffer =
 -- refused: the length is 0, and every byte of the buffer is as it came
 abbrev pub BufferAsGiven : Type 0
 BufferAsGiven =
-    (s : List ℕ) (c : Control) (m : Option (List ℕ)) (out : List ℕ) (q : Refusal) → judgeWriting s c m (length out) ≡ Rejected q
+    (s : List ℕ) (c : Record) (m : Option (List ℕ)) (out : List ℕ) (q : Refusal) → judgeWriting s c m (length out) ≡ Rejected q
     → writing s c m out ≡ record { bytes = out; answer = record { length = 0; verdict = Rejected q } }
 
 -- ---- the numbers of the refusals
@@ -153,18 +156,19 @@ abbrev pub LongRemark : Option (List ℕ) → Type 0
 LongRemark none = ⊥
 LongRemark (some r) = 255 < length r
 
--- 1 to 3 on the machine, then 14, 15, 16
-abbrev pub WritingRefused : List ℕ → Control → Option (List ℕ) → ℕ → ℕ → Type 0
+-- 1, 2, 3, 18 on the machine, then 14, 15, 16
+abbrev pub WritingRefused : List ℕ → Record → Option (List ℕ) → ℕ → ℕ → Type 0
 WritingRefused s c m n =
     Test 1 (SizeRefused (length s))
     (Test 2 (cellsFit s ≡ false)
-    (Test 3 (controlFits c ≡ false)
+    (Test 3 (controlFits (c .registers) ≡ false)
+    (Test 18 (TimerRules (c .timer) → ⊥)
     (Test 14 (LongRemark m)
     (Test 15 (65536 < tapeSize s m)
-    (Test 16 (n < tapeSize s m) passed)))))
+    (Test 16 (n < tapeSize s m) passed))))))
 
 -- a tape is refused with a number exactly if it is due
 abbrev pub WritingNumbers : Type 0
 WritingNumbers =
-    (s : List ℕ) (c : Control) (m : Option (List ℕ)) (n : ℕ) (q : Refusal)
+    (s : List ℕ) (c : Record) (m : Option (List ℕ)) (n : ℕ) (q : Refusal)
     → (judgeWriting s c m n ≡ Rejected q → WritingRefused s c m n (refusalNumber q)) × (WritingRefused s c m n (refusalNumber q) → judgeWriting s c m n ≡ Rejected q)

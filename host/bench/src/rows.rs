@@ -29,6 +29,8 @@ pub enum Work {
 pub struct Blocks {
     pub count: u32,
     pub cells: u32,
+    /// Cells that are left out after each block.
+    pub between: u32,
     pub order: Order,
 }
 
@@ -99,10 +101,11 @@ const fn loads(name: &'static str, store: usize, blocks: Blocks) -> Row {
 }
 
 /// Of one cell each.
-const fn many(order: Order) -> Blocks {
+const fn many(between: u32, order: Order) -> Blocks {
     Blocks {
         count: 4600,
         cells: 1,
+        between,
         order,
     }
 }
@@ -110,11 +113,13 @@ const fn many(order: Order) -> Blocks {
 const ONE: Blocks = Blocks {
     count: 1,
     cells: 4000,
+    between: 0,
     order: Order::Rising,
 };
 
-pub const ROWS: [Row; 19] = [
+pub const ROWS: [Row; 21] = [
     program("register loop", tape!("registers")),
+    program("register loop, timer on", tape!("timer")),
     program("byte copy loop", tape!("bytes")),
     program("multiply loop (WM)", tape!("multiply")),
     program("divide loop (WD)", tape!("divide")),
@@ -141,19 +146,28 @@ pub const ROWS: [Row; 19] = [
     loads(
         "load, 4,600 blocks in falling order",
         16_384,
-        many(Order::Falling),
+        many(2, Order::Falling),
     ),
     loads(
         "load, 4,600 blocks in mixed order",
         16_384,
-        many(Order::Mixed),
+        many(2, Order::Mixed),
     ),
-    loads("the same, 8,388,608 cells", 8_388_608, many(Order::Mixed)),
+    loads(
+        "the same, 8,388,608 cells",
+        8_388_608,
+        many(2, Order::Mixed),
+    ),
+    loads(
+        "the same, all over the cells",
+        8_388_608,
+        many(1822, Order::Mixed),
+    ),
     loads("load, 1,048,576 cells", 1_048_576, ONE),
 ];
 
 impl Blocks {
-    /// The tape: after each block two cells are left out; control record and end
+    /// The tape; control record and end
     /// are those of the tape of document 01.
     pub fn tape(&self) -> Vec<u8> {
         let mut tape = Vec::new();
@@ -166,7 +180,7 @@ impl Blocks {
             };
             tape.extend((4 + 4 * self.cells).to_le_bytes());
             tape.extend([1, 0]);
-            tape.extend((place * (self.cells + 2)).to_le_bytes());
+            tape.extend((place * (self.cells + self.between)).to_le_bytes());
             let cells = 0..self.cells;
             tape.extend(cells.flat_map(|cell| (place + cell + 1).to_le_bytes()));
         }

@@ -150,7 +150,19 @@ fn floats() -> Vec<Machine> {
             machines.push(machine.ex(number % 2 * 7));
         }
     }
+    machines.push(overflow("FA", 3 << 33));
+    machines.push(overflow("FS", -(3 << 33)));
     machines
+}
+
+/// The sum or difference of two numbers with the largest exponent.
+fn overflow(name: &str, fraction: i64) -> Machine {
+    let ([a, b], [c, d]) = (words((3 << 33, 2047)), words((fraction, 2047)));
+    machine()
+        .registers([a, b, 0, 0])
+        .word(DOUBLE as u32 - 2, c)
+        .word(DOUBLE as u32, d)
+        .program(&[instruction(name, 1, 0, 0, DOUBLE)])
 }
 
 /// CI and CF, with scale factors from the displacement and from an index.

@@ -2,9 +2,11 @@
 //!
 //! A case is a row of numbers of 4 bytes, little-endian: the call (0 run, 1 reset
 //! key, 2 start key, 3 autoload key, 4 write), the number of cells, lines, budget,
-//! seven fields of the control record, the device buffer registers of reader and
-//! typewriter, the number of characters, the length of the typing buffer; then
-//! the cells, the characters and the bytes of the typing buffer, a number each.
+//! eleven fields of the control record (IC, IR, IM, pending, PR, EX, the flags
+//! summed as on a tape, elapsed, period, phase, line), the device buffer registers
+//! of reader and typewriter, the number of characters, the length of the typing
+//! buffer; then the cells, the characters and the bytes of the typing buffer, a
+//! number each.
 //! A write has the remark in place of the characters, the output buffer in place
 //! of the typing buffer, and in place of the lines 1 where a remark is given,
 //! else 0.
@@ -12,7 +14,7 @@
 //! An answer is a line: of a run outcome, number, executed, entries, taken and
 //! typed; of the reset and start keys the refusal; of the autoload key the
 //! refusal and taken; of a write the refusal and the length of the tape. Then for
-//! every call the seven fields, the two registers and the checksums of the cells
+//! every call the eleven fields, the two registers and the checksums of the cells
 //! and of the typing or output buffer.
 
 use protocol::{
@@ -190,7 +192,7 @@ fn refusal(result: Result<(), Refusal>) -> u32 {
     result.map_or_else(|refusal| refusal.number(), |()| 0)
 }
 
-fn fields(control: &Control) -> [u32; 7] {
+fn fields(control: &Control) -> [u32; 11] {
     let [monitor, enabled, reset] =
         [control.monitor, control.enabled, control.reset].map(u32::from);
     [
@@ -201,6 +203,10 @@ fn fields(control: &Control) -> [u32; 7] {
         control.pr,
         control.ex,
         monitor + 2 * enabled + 4 * reset,
+        control.elapsed,
+        control.period,
+        control.phase,
+        control.line.into(),
     ]
 }
 

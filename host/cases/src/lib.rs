@@ -14,6 +14,7 @@ mod machine;
 mod papers;
 mod refusals;
 mod sequences;
+mod timers;
 mod writes;
 
 pub use files::{answers, input};
@@ -52,6 +53,7 @@ pub fn cases(seed: u64) -> Vec<Request> {
         .chain(arithmetic::cases())
         .chain(sequences::cases())
         .chain(devices::cases())
+        .chain(timers::cases())
         .chain(writes::cases())
         .chain(random.filter(is_small).take(RANDOM))
         .collect()

@@ -130,6 +130,20 @@ impl Machine {
         self
     }
 
+    /// Sets the timer: period, phase and line.
+    pub fn timer(mut self, period: u32, phase: u32, line: u8) -> Self {
+        self.control.period = period;
+        self.control.phase = phase;
+        self.control.line = line;
+        self
+    }
+
+    /// Sets the elapsed time.
+    pub fn elapsed(mut self, elapsed: u32) -> Self {
+        self.control.elapsed = elapsed;
+        self
+    }
+
     /// Sets the lines.
     pub fn lines(mut self, lines: u32) -> Self {
         self.lines = lines;

@@ -1,4 +1,4 @@
-//! Refusals 1 to 5 and 13, alone and two at a time, with what just passes.
+//! Refusals 1 to 5, 13 and 18, alone and two at a time, with what just passes.
 
 use crate::machine::Machine;
 use protocol::Request;
@@ -8,6 +8,7 @@ pub fn cases() -> Vec<Request> {
     let mut cases: Vec<Request> = alone().iter().flat_map(every_call).collect();
     cases.extend(control_fields().iter().flat_map(every_call));
     cases.extend(flags().iter().flat_map(every_call));
+    cases.extend(timers().iter().flat_map(every_call));
     cases.extend(lines_and_budgets().iter().map(Machine::run));
     cases.extend(together().iter().flat_map(every_call));
     cases
@@ -88,6 +89,31 @@ fn flags() -> Vec<Machine> {
         .collect()
 }
 
+/// Lines and phases of a timer that is on, and of one that is off.
+fn timers() -> Vec<Machine> {
+    let mut machines = Vec::new();
+    for line in [0, 2, 3, 23, 24, 31, 255] {
+        for period in [0, 1, 1000] {
+            machines.push(machine().timer(period, 0, line));
+        }
+    }
+    for (period, phase) in [
+        (1, 1),
+        (1000, 999),
+        (1000, 1000),
+        (1000, 1001),
+        (1 << 31, u32::MAX),
+        (u32::MAX, u32::MAX - 1),
+        (u32::MAX, u32::MAX),
+        (0, u32::MAX),
+    ] {
+        machines.push(machine().timer(period, phase, 3));
+        machines.push(machine().timer(period, phase, 24).in_reset());
+        machines.push(machine().timer(period, phase, 2).ex(8));
+    }
+    machines
+}
+
 fn lines_and_budgets() -> Vec<Machine> {
     let lines = [0x1f_ffff, 1 << 21, 1 << 22, 1 << 23, 1 << 24, u32::MAX];
     let budgets = [0, 65_535, 65_536, 1 << 24, u32::MAX];
@@ -103,6 +129,7 @@ fn refused(mut machine: Machine, number: u32) -> Machine {
         1 => machine.cells.truncate(7),
         2 => machine.cells[6] = u32::MAX,
         3 => machine.control.ex = 8,
+        18 => return machine.timer(5, 5, 3),
         4 => machine.lines = 1 << 23,
         5 => machine.budget = 65_536,
         _ => machine.characters = vec![1, 2, 3, 64],
@@ -111,7 +138,7 @@ fn refused(mut machine: Machine, number: u32) -> Machine {
 }
 
 /// The refusals in the order of their tests.
-const ORDER: [u32; 6] = [1, 2, 3, 4, 5, 13];
+const ORDER: [u32; 7] = [1, 2, 3, 18, 4, 5, 13];
 
 /// Each pair of refusals, and all from one on.
 fn together() -> Vec<Machine> {

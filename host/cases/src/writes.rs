@@ -113,14 +113,24 @@ fn controls() -> Vec<Request> {
     machines.push(task.enabled(1, 2));
     machines.push(machine(&[0; 8]).in_reset());
     machines.push(machine(&[0; 8]).enabled(3, 4));
+    for place in 0..32 {
+        let time = |more: u32| 1_u32.rotate_left(place + more);
+        let line = 3 + (place % 21) as u8;
+        let on = machine(&[0; 8])
+            .elapsed(time(0))
+            .timer(u32::MAX, time(7), line);
+        machines.push(on);
+        machines.push(machine(&[0; 8]).elapsed(time(3)).timer(time(11), 0, line));
+        machines.push(machine(&[0; 8]).timer(0, time(19), 8 * place as u8));
+    }
     let write = |machine: &Machine| machine.write(None, LAST_RECORDS);
     machines.iter().map(write).collect()
 }
 
-/// Refusals 1, 2, 3, 14 and 16: every set of them.
+/// Refusals 1, 2, 3, 14, 16 and 18: every set of them.
 fn together() -> Vec<Request> {
     let mut cases = Vec::new();
-    for refused in 0..32_u32 {
+    for refused in 0..64_u32 {
         let has = |place: u32| refused >> place & 1 == 1;
         let mut machine = machine(&[9; 8]);
         if has(0) {
@@ -131,6 +141,9 @@ fn together() -> Vec<Request> {
         }
         if has(2) {
             machine.control.pr = 127;
+        }
+        if has(5) {
+            machine = machine.timer(7, 3, 24);
         }
         let text = vec![b'.'; if has(3) { 256 } else { 255 }];
         let length = block_bytes(&machine.cells) + LAST_RECORDS + 6 + text.len();

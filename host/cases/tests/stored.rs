@@ -24,13 +24,13 @@ fn the_lengths_in_the_input_make_up_the_whole() {
         .collect();
     let mut place = 1;
     for _ in 0..numbers[0] {
-        let [cells, characters, space] = [1, 13, 14].map(|field| numbers[place + field]);
+        let [cells, characters, space] = [1, 17, 18].map(|field| numbers[place + field]);
         let [most_characters, most_space] = match numbers[place] {
             4 => [cases::REMARK, cases::BUFFER],
             _ => [cases::LENT, cases::LENT],
         };
         assert!(cells <= cases::CELLS && characters <= most_characters && space <= most_space);
-        place += 15 + cells + characters + space;
+        place += 19 + cells + characters + space;
     }
     assert_eq!((numbers[0], place), (cases.len(), numbers.len()));
 }
@@ -44,6 +44,7 @@ fn is_left_out(name: &str) -> bool {
         "remark",
         "no remark",
         "tape of",
+        "tape: ",
         "write refused 15",
         "write: 15",
         "write: 14 before 15",

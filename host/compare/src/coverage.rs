@@ -10,6 +10,11 @@ use crate::load_events::{cleared_events, kept_events, laid_events, LOAD_EVENTS};
 use crate::loads::Laid;
 use crate::stretch::Stretch;
 use crate::tapes::DAMAGES;
+use crate::timer_events::{
+    autoload_key_events, raises, reset_key_events, run_timer_events, start_key_events,
+    tape_timer_events, written_timer_events, Watch, TIMER_EVENTS,
+};
+use crate::times::{form, forms, shift_class, shift_classes, Form, GROUPS};
 use crate::words::WORD;
 use crate::write_events::{write_events, WRITE_EVENTS};
 use protocol::{Answer, Control, Kind, Outcome, Request, Run};
@@ -69,6 +74,10 @@ pub struct Coverage {
     addressing: BTreeMap<(u32, u32), u64>,
     keys: BTreeMap<u32, u64>,
     lines: BTreeMap<u32, u64>,
+    /// Lines that the timer raised.
+    timer_lines: BTreeMap<u32, u64>,
+    forms: BTreeMap<Form, u64>,
+    shifts: BTreeMap<(u32, &'static str), u64>,
     floats: BTreeMap<(u32, usize), u64>,
     answers: BTreeMap<(usize, u32), u64>,
     /// The same where every cell of the store is in use.
@@ -114,7 +123,8 @@ fn all_events() -> impl Iterator<Item = &'static str> {
         .into_iter()
         .chain(WRITE_EVENTS)
         .chain(BLOCK_EVENTS)
-        .chain(LOAD_EVENTS);
+        .chain(LOAD_EVENTS)
+        .chain(TIMER_EVENTS);
     EVENTS.into_iter().chain(devices_and_tapes)
 }
 
@@ -142,6 +152,16 @@ struct Met {
     double: u64,
 }
 
+impl Met {
+    /// The bits of IR that the instruction clears.
+    fn cleared(&self) -> u32 {
+        match (self.code, self.address) {
+            (47, Some(address)) => address,
+            _ => 0,
+        }
+    }
+}
+
 impl Coverage {
     /// Counts a case and its answer.
     pub fn count(&mut self, case: &Case, answer: &Answer) {
@@ -152,19 +172,6 @@ impl Coverage {
             add(&mut self.damages, place.unwrap_or(DAMAGES.len()));
         }
         match &case.request {
-            Request::Run(run) => {
-                self.events(run_events(run, answer));
-                if let Answer::Run { report, .. } = answer {
-                    self.count_outcome(report.outcome, run.budget);
-                    self.go_through(run);
-                }
-            }
-            Request::PressAutoload {
-                control,
-                devices,
-                characters,
-                ..
-            } => self.events(key_events(control, devices, characters, answer)),
             Request::Load { store, tape } => {
                 self.count_tape(store.size, tape, answer);
                 self.events(load_events(store, tape, answer));
@@ -175,7 +182,36 @@ impl Coverage {
                 self.events(kept_events(store, tape, answer));
             }
             Request::Remark { cells, tape } => self.count_tape(*cells, tape, answer),
-            Request::Write(write) => self.events(write_events(write, answer)),
+            machine => self.count_machine(machine, answer),
+        }
+    }
+
+    /// Counts a call with a control record.
+    fn count_machine(&mut self, request: &Request, answer: &Answer) {
+        match request {
+            Request::Run(run) => {
+                self.events(run_events(run, answer));
+                self.events(run_timer_events(run, answer));
+                if let Answer::Run { report, .. } = answer {
+                    self.count_outcome(report.outcome, run.budget);
+                    self.go_through(run);
+                }
+            }
+            Request::PressAutoload {
+                control,
+                devices,
+                characters,
+                ..
+            } => {
+                self.events(key_events(control, devices, characters, answer));
+                self.events(autoload_key_events(control, characters, answer));
+            }
+            Request::PressReset { control, .. } => self.events(reset_key_events(control, answer)),
+            Request::PressStart { control, .. } => self.events(start_key_events(control, answer)),
+            Request::Write(write) => {
+                self.events(write_events(write, answer));
+                self.events(written_timer_events(write, answer));
+            }
             _ => (),
         }
     }
@@ -204,6 +240,7 @@ impl Coverage {
         let taken = !matches!(answer, Answer::Refused(_));
         self.event_if(taken && tape.len() == 65_536, "tape of 65,536 bytes");
         self.events(block_events(cells, tape, answer));
+        self.events(tape_timer_events(tape, answer));
     }
 
     fn count_answer(&mut self, request: &Request, answer: &Answer) {
@@ -257,6 +294,7 @@ impl Coverage {
             return;
         }
         let mut stretch = Stretch::new(run);
+        let mut watch = Watch::default();
         for _ in 0..run.budget.min(CYCLES) {
             let before = stretch.control;
             let met = met(&stretch.store, &before);
@@ -268,6 +306,8 @@ impl Coverage {
             };
             self.events(device.iter().flat_map(|device| device.events(&report)));
             let Stretch { control, store, .. } = &stretch;
+            let cleared = met.as_ref().map_or(0, Met::cleared);
+            self.events(watch.cycle(&before, control, report.outcome, cleared));
             self.count_cycle(&before, control, met.as_ref(), report.outcome, store);
             if let (Some(met), Outcome::Spent) = (met, report.outcome) {
                 self.count_operands(&met, control);
@@ -292,6 +332,9 @@ impl Coverage {
             "lines hidden by a modification",
         );
         self.event_if(before.enabled && before.ir & !before.im != 0, "masked line");
+        if raises(before, after) {
+            add(&mut self.timer_lines, before.line.into());
+        }
         match outcome {
             Outcome::Interrupted(Kind::Line(number)) => {
                 add(&mut self.lines, number);
@@ -320,6 +363,7 @@ impl Coverage {
     fn count_executed(&mut self, before: &Control, after: &Control, met: &Met) {
         add(&mut self.executed, met.code);
         add(&mut self.addressing, (met.m, met.x));
+        add(&mut self.forms, form(met.code, met.m, met.x));
         add(&mut self.keys, met.key);
         self.event(if after.monitor {
             "monitor mode"
@@ -338,6 +382,10 @@ impl Coverage {
 
     /// Counts shift counts and the classes of floating-point operands.
     fn count_operands(&mut self, met: &Met, after: &Control) {
+        let address = met.address.unwrap_or(0);
+        if let Some(class) = shift_class(met.code, address, met.pair) {
+            add(&mut self.shifts, class);
+        }
         if let (36..=39, Some(count)) = (met.code, met.address) {
             let count = signed_word(count);
             self.event_if(count >= 64, "shift by 64 or more");
@@ -400,6 +448,7 @@ impl Coverage {
         missing.extend(absent(numbers, &self.lines, |number| {
             format!("line {}", number / 2)
         }));
+        missing.extend(self.missing_times());
         missing.extend(absent(0..DAMAGES.len(), &self.damages, |place| {
             format!("{:?}", DAMAGES[place])
         }));
@@ -427,6 +476,20 @@ impl Coverage {
         absent(classes, &self.floats, |(code, class)| {
             format!("{} {}", MNEMONICS[code as usize], FLOAT_CLASSES[class])
         })
+    }
+
+    fn missing_times(&self) -> Vec<String> {
+        let mut missing = absent(3..24, &self.timer_lines, |line| {
+            format!("timer line {line}")
+        });
+        missing.extend(absent(forms(), &self.forms, |(m, indexed, group)| {
+            let indexed = if indexed { ", indexed" } else { "" };
+            format!("time of M {m}{indexed}, {}", GROUPS[group])
+        }));
+        missing.extend(absent(shift_classes(), &self.shifts, |(code, class)| {
+            format!("{} {class}", MNEMONICS[code as usize])
+        }));
+        missing
     }
 
     fn missing_answers(&self) -> Vec<String> {
@@ -461,14 +524,14 @@ fn absent<K: Ord + Copy>(
 
 /// The refusals that each call can give; 0 stands for none.
 const EXPECTED_ANSWERS: [&[u32]; 8] = [
-    &[0, 1, 2, 3, 4, 5, 13],
-    &[0, 1, 2, 3],
-    &[0, 1, 2, 3],
-    &[0, 1, 2, 3, 13],
-    &[0, 1, 2, 3, 6, 7, 8, 9, 10, 11, 12, 17],
-    &[0, 1, 2, 3, 6, 7, 8, 9, 10, 11, 12, 17],
-    &[0, 1, 3, 6, 7, 8, 9, 10, 11, 12, 17],
-    &[0, 1, 2, 3, 14, 15, 16],
+    &[0, 1, 2, 3, 4, 5, 13, 18],
+    &[0, 1, 2, 3, 18],
+    &[0, 1, 2, 3, 18],
+    &[0, 1, 2, 3, 13, 18],
+    &[0, 1, 2, 3, 6, 7, 8, 9, 10, 11, 12, 17, 18],
+    &[0, 1, 2, 3, 6, 7, 8, 9, 10, 11, 12, 17, 18],
+    &[0, 1, 3, 6, 7, 8, 9, 10, 11, 12, 17, 18],
+    &[0, 1, 2, 3, 14, 15, 16, 18],
 ];
 
 fn byte(store: &[u32], address: u32) -> Option<u32> {
@@ -557,7 +620,7 @@ fn write_counts(
     answers: &BTreeMap<(usize, u32), u64>,
 ) -> fmt::Result {
     write!(formatter, "  {name}: done {}", times(answers, (call, 0)))?;
-    for number in 1..=17 {
+    for number in 1..=18 {
         if let Some(times) = answers.get(&(call, number)) {
             write!(formatter, ", refused {number} {times}")?;
         }
@@ -607,6 +670,27 @@ impl Coverage {
         Ok(())
     }
 
+    fn write_times(&self, formatter: &mut fmt::Formatter) -> fmt::Result {
+        writeln!(
+            formatter,
+            "address times, M = 0 to 3 not indexed, then indexed:"
+        )?;
+        for (group, name) in GROUPS.iter().enumerate() {
+            write!(formatter, "  {name:14}")?;
+            for (m, indexed) in (0..8).map(|place| (place % 4, place >= 4)) {
+                write!(formatter, " {:>8}", times(&self.forms, (m, indexed, group)))?;
+            }
+            writeln!(formatter)?;
+        }
+        writeln!(formatter, "shift times:")?;
+        for (code, class) in shift_classes() {
+            let name = MNEMONICS[code as usize];
+            let count = times(&self.shifts, (code, class));
+            writeln!(formatter, "  {name} {class} {count}")?;
+        }
+        Ok(())
+    }
+
     fn write_floats(&self, formatter: &mut fmt::Formatter) -> fmt::Result {
         let names = FLOAT_CODES.map(|code| MNEMONICS[code as usize]).join(" ");
         writeln!(formatter, "floating-point operands and results, {names}:")?;
@@ -633,7 +717,12 @@ impl fmt::Display for Coverage {
         for line in 0..24 {
             write!(formatter, " {}", times(&self.lines, 2 * line))?;
         }
+        write!(formatter, "\nlines 3 to 23 raised by the timer:")?;
+        for line in 3..24 {
+            write!(formatter, " {}", times(&self.timer_lines, line))?;
+        }
         writeln!(formatter)?;
+        self.write_times(formatter)?;
         self.write_answers(formatter)?;
         self.write_floats(formatter)?;
         writeln!(formatter, "events:")?;

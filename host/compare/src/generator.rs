@@ -4,6 +4,7 @@ use crate::lent::{self, refuse_device};
 use crate::machines::{self, Image};
 use crate::random::Random;
 use crate::tapes::{self, Damage};
+use crate::timers::refuse_timer;
 use crate::writes::{self, refuse_length, refuse_remark, refuse_space};
 use emulation::MAXIMUM_CELLS;
 use protocol::{Request, Run, Write};
@@ -68,13 +69,14 @@ fn run(random: &mut Random) -> Request {
     } else {
         budget(random)
     };
-    for number in refusals(random, 6) {
+    for number in refusals(random, 7) {
         match number {
             1 => refuse_size(random, &mut image),
             2 => refuse_cell(random, &mut image),
             3 => refuse_control(random, &mut image),
-            4 => lines |= random.pick(&[1 << 23, 1 << 22, 1 << 21, 1 << 24, 1 << 31, 7 << 21]),
-            5 => budget = random.pick(&[65_536, 65_537, 1 << 24, u32::MAX]),
+            4 => refuse_timer(random, &mut image.control),
+            5 => lines |= random.pick(&[1 << 23, 1 << 22, 1 << 21, 1 << 24, 1 << 31, 7 << 21]),
+            6 => budget = random.pick(&[65_536, 65_537, 1 << 24, u32::MAX]),
             _ => refuse_device(random, &mut lent),
         }
     }
@@ -103,11 +105,12 @@ fn image_for_key(random: &mut Random) -> Image {
 fn autoload_key(random: &mut Random) -> Request {
     let mut image = image_for_key(random);
     let mut lent = lent::lent(random, image.size);
-    for number in refusals(random, 4) {
+    for number in refusals(random, 5) {
         match number {
             1 => refuse_size(random, &mut image),
             2 => refuse_cell(random, &mut image),
             3 => refuse_control(random, &mut image),
+            4 => refuse_timer(random, &mut image.control),
             _ => refuse_device(random, &mut lent),
         }
     }
@@ -121,11 +124,12 @@ fn autoload_key(random: &mut Random) -> Request {
 
 fn key(random: &mut Random, reset: bool) -> Request {
     let mut image = image_for_key(random);
-    for number in refusals(random, 3) {
+    for number in refusals(random, 4) {
         match number {
             1 => refuse_size(random, &mut image),
             2 => refuse_cell(random, &mut image),
-            _ => refuse_control(random, &mut image),
+            3 => refuse_control(random, &mut image),
+            _ => refuse_timer(random, &mut image.control),
         }
     }
     let (store, control) = (image.listed(), image.control);
@@ -195,14 +199,15 @@ fn remark(random: &mut Random) -> Case {
 
 fn write(random: &mut Random) -> Request {
     let mut writing = writes::writing(random);
-    // From the last test to the first: 5 brings another store and buffer.
-    for number in refusals(random, 6).into_iter().rev() {
+    // From the last test to the first: 6 brings another store and buffer.
+    for number in refusals(random, 7).into_iter().rev() {
         match number {
             1 => refuse_size(random, &mut writing.image),
             2 => refuse_cell(random, &mut writing.image),
             3 => refuse_control(random, &mut writing.image),
-            4 => refuse_remark(random, &mut writing),
-            5 => refuse_length(random, &mut writing),
+            4 => refuse_timer(random, &mut writing.image.control),
+            5 => refuse_remark(random, &mut writing),
+            6 => refuse_length(random, &mut writing),
             _ => refuse_space(random, &mut writing),
         }
     }

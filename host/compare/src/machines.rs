@@ -1,6 +1,7 @@
 //! Random machines: a store and a control record.
 
 use crate::random::Random;
+use crate::timers::set_timer;
 use crate::words::{
     address, assemble, count, device_address, edge, float, float_near, instruction, word, WORD,
 };
@@ -172,6 +173,7 @@ fn set_control(random: &mut Random, image: &mut Image) {
         _ => 0,
     };
     image.control.ex = random.below(8);
+    set_timer(random, &mut image.control);
     image.control.enabled = random.one_in(2);
     if random.one_in(40) {
         image.control.enabled = false;

@@ -2,7 +2,9 @@
 
 use crate::blocks::{named, BLOCK, REMARK};
 use crate::random::Random;
+use crate::timers::{refuse_timer, set_timer};
 use crate::words::word;
+use protocol::Control;
 use std::ops::Range;
 
 /// What is done to a tape.
@@ -26,7 +28,7 @@ pub enum Damage {
     EndTooEarly,
     /// A block length that is no multiple of 4, or below 8.
     BlockLength,
-    /// A control length other than 20.
+    /// A control length other than 20 and 33.
     ControlLength,
     /// An end length other than 0.
     EndLength,
@@ -64,8 +66,10 @@ pub enum Damage {
     Flags,
     /// The reset state in task mode or with interrupts enabled.
     ResetRule,
-    /// A last byte other than zero.
+    /// A twentieth byte other than zero.
     LastByte,
+    /// A control record of 33 bytes whose timer is refused.
+    Timer,
     /// Bytes after the end.
     AfterEnd,
     /// Over 65,536 bytes.
@@ -75,7 +79,7 @@ pub enum Damage {
 }
 
 /// All of them, in order.
-pub const DAMAGES: [Damage; 32] = [
+pub const DAMAGES: [Damage; 33] = [
     Damage::HeaderCut,
     Damage::PayloadCut,
     Damage::NoEnd,
@@ -105,6 +109,7 @@ pub const DAMAGES: [Damage; 32] = [
     Damage::Flags,
     Damage::ResetRule,
     Damage::LastByte,
+    Damage::Timer,
     Damage::AfterEnd,
     Damage::TooLong,
     Damage::ByteChanged,
@@ -301,7 +306,20 @@ fn control(random: &mut Random) -> Record {
     let ex = random.below(8) as u8;
     let flags = random.pick(&[0, 1, 2, 3, 5]);
     payload.extend([pr, ex, flags, 0]);
+    if !random.one_in(3) {
+        let mut timer = Control::fresh();
+        set_timer(random, &mut timer);
+        payload.extend(timer_bytes(&timer));
+    }
     Record::new(CONTROL, payload)
+}
+
+/// The last bytes of a control record of 33.
+fn timer_bytes(timer: &Control) -> Vec<u8> {
+    let times = [timer.elapsed, timer.period, timer.phase];
+    let mut bytes = times.map(u32::to_le_bytes).concat();
+    bytes.push(timer.line);
+    bytes
 }
 
 /// Puts remarks in front so that the tape has exactly 65,536 bytes.
@@ -446,7 +464,7 @@ fn damage_payload(random: &mut Random, record: &mut Record, damage: Damage, size
     let any_byte = 1 + random.below(255) as u8;
     match damage {
         Damage::BlockLength => record.resize(random.pick(&[0, 1, 4, 5, 6, 7, 9, 10, 11, 13])),
-        Damage::ControlLength => record.resize(random.pick(&[0, 4, 16, 19, 21, 24, 40])),
+        Damage::ControlLength => record.resize(random.pick(&[0, 4, 16, 19, 21, 24, 32, 34, 40])),
         Damage::EndLength => record.resize(random.pick(&[1, 4, 6, 20])),
         Damage::RemarkLength => record.resize(random.pick(&[256, 257, 300, 512])),
         Damage::BlockBeyond => {
@@ -470,6 +488,12 @@ fn damage_payload(random: &mut Random, record: &mut Record, damage: Damage, size
         Damage::Flags => set(record, 18, &[8 | any_byte]),
         Damage::ResetRule => set(record, 18, &[random.pick(&[4, 6, 7])]),
         Damage::LastByte => set(record, 19, &[any_byte]),
+        Damage::Timer => {
+            let mut timer = Control::fresh();
+            refuse_timer(random, &mut timer);
+            record.resize(33);
+            set(record, 20, &timer_bytes(&timer));
+        }
         _ => (),
     }
 }

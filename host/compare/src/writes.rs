@@ -7,7 +7,7 @@ use emulation::MAXIMUM_TAPE;
 use protocol::Listed;
 
 /// The bytes of control and end record.
-pub const LAST_RECORDS: usize = 26 + 6;
+pub const LAST_RECORDS: usize = 39 + 6;
 
 /// The bytes of a block beside its cells, and of one cell.
 const BLOCK: usize = 10;

@@ -1,6 +1,6 @@
 //! The control record: what the processor holds beside the store (14.2).
 
-use crate::bits::WORD;
+use crate::bits::{bit, WORD};
 use crate::refusal::Refusal;
 
 /// The control record of a machine.
@@ -24,6 +24,15 @@ pub struct Control {
     pub enabled: bool,
     /// The reset state of section 11.3.
     pub reset: bool,
+    /// The time of all cycles, in tenths of a microsecond; carries out of 32
+    /// bits are dropped.
+    pub elapsed: u32,
+    /// The period of the interval timer, in the same unit; 0 for off.
+    pub period: u32,
+    /// The time since the last period ended, below the period.
+    pub phase: u32,
+    /// The line that the timer raises, 3 to 23.
+    pub line: u8,
 }
 
 impl Control {
@@ -49,11 +58,21 @@ impl Control {
             monitor: true,
             enabled: false,
             reset: true,
+            elapsed: 0,
+            period: 0,
+            phase: 0,
+            line: 0,
         }
     }
 
-    /// Refusal 3: a field outside the widths and rules of document 01.
+    /// Refusals 3 and 18, in this order.
     pub(crate) fn check(&self) -> Result<(), Refusal> {
+        self.check_fields()?;
+        self.check_timer()
+    }
+
+    /// Refusal 3: a field outside the widths and rules of document 01.
+    fn check_fields(&self) -> Result<(), Refusal> {
         let words_fit = [self.ic, self.ir, self.im, self.pending]
             .iter()
             .all(|&field| field <= WORD);
@@ -64,6 +83,33 @@ impl Control {
         } else {
             Err(Refusal::ControlField)
         }
+    }
+
+    /// Refusal 18. With period 0 any line and phase will do.
+    fn check_timer(&self) -> Result<(), Refusal> {
+        let line_fits = (3..=23).contains(&self.line);
+        if self.period == 0 || (line_fits && self.phase < self.period) {
+            Ok(())
+        } else {
+            Err(Refusal::Timer)
+        }
+    }
+
+    /// The end of a cycle that took `time`: where the phase reaches or passes the
+    /// period, the line is raised once and the phase keeps the remainder (02,
+    /// E6).
+    pub(crate) fn end_cycle(&mut self, time: u32) {
+        self.elapsed = self.elapsed.wrapping_add(time);
+        if self.period == 0 {
+            return;
+        }
+        let period = u64::from(self.period);
+        let mut phase = u64::from(self.phase) + u64::from(time);
+        if phase >= period {
+            self.ir |= bit(u32::from(self.line));
+            phase %= period;
+        }
+        self.phase = phase as u32;
     }
 
     /// Whether the PR bit numbered by `key` is one (6.1).

@@ -5,6 +5,7 @@ use crate::channel::Channel;
 use crate::control::Control;
 use crate::run::Kind;
 use crate::store::Store;
+use crate::times;
 
 /// What a cycle was.
 pub enum Cycle {
@@ -25,6 +26,8 @@ pub struct Processor<'a> {
     pub store: Store<'a>,
     pub control: Control,
     pub channel: Channel<'a>,
+    /// The time of the instruction so far, in tenths of a microsecond.
+    pub time: u32,
 }
 
 /// What the fetch leaves in FR, SB and AR.
@@ -43,11 +46,22 @@ impl<'a> Processor<'a> {
             store: Store::new(cells),
             control,
             channel,
+            time: 0,
         }
     }
 
-    /// One entry or one instruction.
+    /// One entry or one instruction, and the time that it takes.
     pub fn cycle(&mut self) -> Cycle {
+        let cycle = self.entry_or_instruction();
+        let time = match cycle {
+            Cycle::Entry(_) => times::ENTRY,
+            Cycle::Executed => self.time,
+        };
+        self.control.end_cycle(time);
+        cycle
+    }
+
+    fn entry_or_instruction(&mut self) -> Cycle {
         if let Some(line) = self.line() {
             self.control.ir &= !bit(line);
             self.enter(2 * line);
@@ -90,8 +104,9 @@ impl<'a> Processor<'a> {
     fn instruction(&mut self) -> Step {
         let pending = std::mem::take(&mut self.control.pending);
         let fetched = self.fetch()?;
-        let address = self.effective_address(&fetched, pending)?;
         let operation = fetched.fr >> 6;
+        self.time = times::direct(operation);
+        let address = self.effective_address(&fetched, pending)?;
         let register = (fetched.fr >> 4) & 3;
         self.execute(operation, register, address)
     }
@@ -117,19 +132,27 @@ impl<'a> Processor<'a> {
     }
 
     /// The effective address (3.4): displacement and pending modification,
-    /// then relative, indexed, indirect as FR(8:11) say.
-    fn effective_address(&self, fetched: &Fetched, pending: u32) -> Result<u32, Exception> {
+    /// then relative, indexed, indirect as FR(8:11) say, each with its time.
+    fn effective_address(&mut self, fetched: &Fetched, pending: u32) -> Result<u32, Exception> {
         let mut address = add_address(fetched.displacement, pending);
+        let mut modification = 0;
         if fetched.fr & 8 != 0 {
             address = add_address(address, fetched.relative);
+            modification = times::RELATIVE;
         }
         let index = fetched.fr & 3;
         if index != 0 {
             address = add_address(address, self.store.register(index));
+            modification = match modification {
+                0 => times::INDEXED,
+                _ => times::RELATIVE_AND_INDEXED,
+            };
         }
+        self.time += modification;
         if fetched.fr & 4 != 0 {
             self.test_address(address)?;
             address = self.store.word(address);
+            self.time += times::indirect(fetched.fr >> 6);
         }
         Ok(address)
     }

@@ -12,6 +12,8 @@ use crate::store::first_word;
 const IR_FLOATING: u32 = bit(2);
 /// The exponent of a floating-point zero.
 const ZERO_EXPONENT: i32 = -2048;
+/// The exponent with which an integer of 24 bits is a fraction (5.6).
+const INTEGER_EXPONENT: i32 = 23;
 /// What FD adds to the exponent difference before its loop (5.2).
 const DIVISION_START: i32 = 35;
 
@@ -279,12 +281,14 @@ impl Processor<'_> {
         let integer = signed_word(self.store.register(w));
         let mut accumulator = Accumulator {
             af: i64::from(integer) << 14,
-            sc: 23,
+            sc: INTEGER_EXPONENT,
         };
         if integer == 0 {
             accumulator.sc = ZERO_EXPONENT;
         } else {
             self.normalize_and_round(&mut accumulator);
+            // SC went down by one for each left shift.
+            self.take_shifts((INTEGER_EXPONENT - accumulator.sc).unsigned_abs());
             accumulator.sc = wrap_sc(accumulator.sc + signed(u64::from(sb), 13) as i32);
             if accumulator.exponent_overflows() {
                 self.floating_overflow();
@@ -299,7 +303,7 @@ impl Processor<'_> {
         self.clear_exceptions();
         let register = self.pair(w);
         let mut af = fraction(register);
-        let difference = 23 - signed_word(sb) - exponent(register);
+        let difference = INTEGER_EXPONENT - signed_word(sb) - exponent(register);
         let count = signed_word(difference as u32 & WORD);
         if count < 0 && af != 0 {
             self.integer_overflow();
@@ -312,6 +316,7 @@ impl Processor<'_> {
             for _ in 0..count {
                 af = af_right(af);
             }
+            self.take_shifts(count.unsigned_abs());
         }
         // Rounding by AF(24); AR is AF(-1:23).
         let ar = (af >> 14) + i64::from(af_bit(af, 24));

@@ -41,6 +41,7 @@ mod run;
 mod shifts;
 mod store;
 mod tape;
+mod times;
 
 pub use channel::Devices;
 pub use control::Control;

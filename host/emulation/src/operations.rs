@@ -5,6 +5,7 @@ use crate::bits::{add_address, bit, extend_byte, signed_word, BYTE};
 use crate::channel::{device_number, Command};
 use crate::cycle::{Exception, Processor, Step};
 use crate::store::{first_word, register_before};
+use crate::times;
 
 impl Processor<'_> {
     /// `goto operation(FR(0:5))`. `w` is FR(6:7), `sb` the effective address.
@@ -273,8 +274,10 @@ impl Processor<'_> {
         let disconnected = self.channel.is_disconnected(device, command);
         self.control.ex = (self.control.ex & 4) | (u32::from(disconnected) << 1);
         if disconnected {
+            self.time += times::REJECTED;
             return Ok(());
         }
+        self.time += times::input_output(command);
         match command {
             Command::Sense => self.store.set_register(w, self.channel.buffer(device)),
             Command::Control => (),

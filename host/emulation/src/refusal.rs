@@ -39,6 +39,9 @@ pub enum Refusal {
     BufferLength = 16,
     /// 17: a block names a cell that an earlier block of the tape names.
     BlockOverlap = 17,
+    /// 18: the period of the timer is not 0, and its line is outside 3 to 23 or
+    /// its phase is not below the period.
+    Timer = 18,
 }
 
 impl Refusal {
@@ -68,6 +71,7 @@ impl Refusal {
             WrittenLength,
             BufferLength,
             BlockOverlap,
+            Timer,
         ];
         all.into_iter().find(|refusal| refusal.number() == number)
     }

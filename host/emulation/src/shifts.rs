@@ -3,6 +3,7 @@
 use crate::bits::signed_word;
 use crate::cycle::{Processor, Step};
 use crate::store::register_before;
+use crate::times;
 
 /// A register or register pair while it is shifted.
 struct Shifter {
@@ -58,17 +59,18 @@ impl Shifter {
         }
     }
 
-    /// NS, ND: SC, minus the number of shifts, or -2048 for a zero.
-    fn normalize(&mut self) -> i32 {
+    /// NS, ND: SC, minus the number of shifts, or -2048 for a zero, and the
+    /// number of shifts, 0 for a zero.
+    fn normalize(&mut self) -> (i32, u32) {
         if self.bits == 0 {
-            return -2048;
+            return (-2048, 0);
         }
         let mut sc = 0;
         while self.bit_0() == self.bit_1() {
             self.left();
             sc -= 1;
         }
-        sc
+        (sc, sc.unsigned_abs())
     }
 }
 
@@ -119,24 +121,34 @@ impl Processor<'_> {
         self.store.set_register(w, bits as u32);
     }
 
+    /// The time of so many single shifts.
+    pub fn take_shifts(&mut self, count: u32) {
+        self.time += count * times::SHIFT;
+    }
+
     fn shift_arithmetically(&mut self, w: u32, sb: u32, mut shifter: Shifter) -> Step {
         self.clear_exceptions();
-        if shifter.arithmetically(places(sb)) {
+        let count = places(sb);
+        if shifter.arithmetically(count) {
             self.integer_overflow();
         }
+        self.take_shifts(count.unsigned_abs());
         self.set_shifted(w, &shifter);
         Ok(())
     }
 
     fn shift_logically(&mut self, w: u32, sb: u32, mut shifter: Shifter) -> Step {
-        shifter.logically(places(sb));
+        let count = places(sb);
+        shifter.logically(count);
+        self.take_shifts(count.unsigned_abs());
         self.set_shifted(w, &shifter);
         Ok(())
     }
 
     /// The count is stored after the shift.
     fn normalize(&mut self, w: u32, sb: u32, mut shifter: Shifter) -> Step {
-        let sc = shifter.normalize();
+        let (sc, count) = shifter.normalize();
+        self.take_shifts(count);
         self.set_shifted(w, &shifter);
         self.store_byte(sb, sc as u32)
     }

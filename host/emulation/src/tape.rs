@@ -1,4 +1,4 @@
-//! The load tape and its remark (01, "Load tape"; 02, E4 and E5), and the writer
+//! The load tape and its remark (01, "Load tape"; 02, E4 to E6), and the writer
 //! of tapes (02, E2).
 
 use crate::control::Control;
@@ -11,8 +11,10 @@ pub const MAXIMUM_TAPE: usize = 65_536;
 pub const MAXIMUM_REMARK: usize = 255;
 
 const HEADER: usize = 6;
-/// The bytes of a control record after its header.
-const CONTROL: usize = 20;
+/// The bytes of a control record after its header, as it is written.
+const CONTROL: usize = 33;
+/// The same without elapsed time and timer, which are then zero.
+const CONTROL_WITHOUT_TIMES: usize = 20;
 
 /// The kinds of records.
 #[derive(Clone, Copy, PartialEq, Eq)]
@@ -39,7 +41,7 @@ impl RecordKind {
     fn check_length(self, length: usize) -> Result<(), Refusal> {
         let fits = match self {
             RecordKind::Block => length >= 8 && length % 4 == 0,
-            RecordKind::Control => length == CONTROL,
+            RecordKind::Control => [CONTROL_WITHOUT_TIMES, CONTROL].contains(&length),
             RecordKind::End => length == 0,
             RecordKind::Remark => length <= MAXIMUM_REMARK,
         };
@@ -109,11 +111,13 @@ fn check_block(payload: &[u8], named: &mut [bool]) -> Result<(), Refusal> {
     Ok(())
 }
 
-/// The control record on a tape; refusal 3.
-fn control_of(payload: &[u8]) -> Result<Control, Refusal> {
+/// The control record on a tape; refusals 3 and 18, in this order.
+fn control_of(record: &[u8]) -> Result<Control, Refusal> {
+    let mut payload = [0; CONTROL];
+    payload[..record.len()].copy_from_slice(record);
     let flags = payload[18];
     let control = Control {
-        ic: number(payload),
+        ic: number(&payload),
         ir: number(&payload[4..]),
         im: number(&payload[8..]),
         pending: number(&payload[12..]),
@@ -122,6 +126,10 @@ fn control_of(payload: &[u8]) -> Result<Control, Refusal> {
         monitor: flags & 1 != 0,
         enabled: flags & 2 != 0,
         reset: flags & 4 != 0,
+        elapsed: number(&payload[20..]),
+        period: number(&payload[24..]),
+        phase: number(&payload[28..]),
+        line: payload[32],
     };
     if flags > 7 || payload[19] != 0 {
         return Err(Refusal::ControlField);
@@ -262,6 +270,11 @@ fn control_payload(control: &Control) -> [u8; CONTROL] {
     payload[16] = control.pr as u8;
     payload[17] = control.ex as u8;
     payload[18] = monitor + 2 * enabled + 4 * reset;
+    let times = [control.elapsed, control.period, control.phase];
+    for (part, time) in payload[20..].chunks_exact_mut(4).zip(times) {
+        part.copy_from_slice(&time.to_le_bytes());
+    }
+    payload[32] = control.line;
     payload
 }
 

@@ -30,6 +30,16 @@ fn good_control() -> Vec<u8> {
     control(128, 0, 5, 0)
 }
 
+/// A control record of 33 bytes: the first 20 as `control` has them, then
+/// elapsed, period and phase, and the line.
+fn timed(fields: [u8; 4], times: [u32; 3], line: u8) -> Vec<u8> {
+    let [pr, ex, flags, last] = fields;
+    let mut payload = control(pr, ex, flags, last)[6..].to_vec();
+    payload.extend(times.map(u32::to_le_bytes).concat());
+    payload.push(line);
+    record(2, &payload)
+}
+
 fn end() -> Vec<u8> {
     record(3, &[])
 }
@@ -314,7 +324,7 @@ fn the_number_of_the_overlap() {
     assert_eq!(Refusal::BlockOverlap.number(), 17);
     assert_eq!(Refusal::from_number(17), Some(Refusal::BlockOverlap));
     assert_eq!(Refusal::BlockOverlap.to_string(), "refused 17");
-    assert_eq!(Refusal::from_number(18), None);
+    assert_eq!(Refusal::from_number(19), None);
 }
 
 #[test]
@@ -332,4 +342,75 @@ fn control_record_refusals() {
             Refusal::ControlField
         );
     }
+}
+
+const GOOD_FIELDS: [u8; 4] = [128, 0, 5, 0];
+
+#[test]
+fn control_records_of_20_and_33_bytes() {
+    let mut control = Control {
+        elapsed: 1,
+        period: 2,
+        phase: 3,
+        line: 4,
+        ..Control::fresh()
+    };
+    let mut load = |control_record: Vec<u8>| {
+        let tape = [control_record, end()].concat();
+        load(&mut [0; 8], &mut control, &tape).map(|()| control)
+    };
+    assert_eq!(load(good_control()), Ok(Control::fresh()));
+    for (times, line) in [
+        ([0, 0, 0], 0),
+        ([u32::MAX, u32::MAX, u32::MAX - 1], 3),
+        ([1, 1, 0], 23),
+        ([7, 0, u32::MAX], 255),
+    ] {
+        let [elapsed, period, phase] = times;
+        let given = Control {
+            elapsed,
+            period,
+            phase,
+            line,
+            ..Control::fresh()
+        };
+        assert_eq!(load(timed(GOOD_FIELDS, times, line)), Ok(given));
+    }
+}
+
+#[test]
+fn other_lengths_of_a_control_record() {
+    for length in (0..20).chain(21..33).chain([34, 40, 53, 66]) {
+        let payload = vec![0; length];
+        assert_eq!(refusal(&[record(2, &payload)]), Refusal::RecordLength);
+    }
+    let cut = timed(GOOD_FIELDS, [0; 3], 0);
+    for length in [6, 26, 38] {
+        assert_eq!(refusal(&[cut[..length].to_vec()]), Refusal::TapeEnds);
+    }
+}
+
+#[test]
+fn timer_refusals() {
+    for (period, phase, line) in [
+        (1, 0, 0),
+        (1, 0, 2),
+        (1, 0, 24),
+        (1, 0, 255),
+        (1, 1, 3),
+        (1, u32::MAX, 3),
+        (u32::MAX, u32::MAX, 23),
+    ] {
+        let times = [5, period, phase];
+        let record = timed(GOOD_FIELDS, times, line);
+        assert_eq!(refusal(&[record]), Refusal::Timer);
+        for fields in [[127, 0, 5, 0], [128, 0, 8, 0], [128, 0, 5, 1]] {
+            let record = timed(fields, times, line);
+            assert_eq!(refusal(&[record]), Refusal::ControlField);
+        }
+    }
+    let record = timed([128, 0, 5, 1], [0; 3], 0);
+    assert_eq!(refusal(&[record]), Refusal::ControlField);
+    assert_eq!(Refusal::Timer.number(), 18);
+    assert_eq!(Refusal::from_number(18), Some(Refusal::Timer));
 }

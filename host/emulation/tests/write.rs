@@ -3,7 +3,7 @@
 use emulation::{load, remark, write, Control, Refusal, MAXIMUM_TAPE};
 
 /// The bytes of control and end record.
-const LAST_RECORDS: usize = 26 + 6;
+const LAST_RECORDS: usize = 39 + 6;
 
 /// A control record with another value in each field.
 fn record() -> Control {
@@ -17,6 +17,10 @@ fn record() -> Control {
         monitor: false,
         enabled: true,
         reset: false,
+        elapsed: 0xf102_0304,
+        period: 0x0506_0708,
+        phase: 0x0102_0304,
+        line: 23,
     }
 }
 
@@ -55,14 +59,15 @@ fn every_byte_of_a_tape() {
     store[6] = 0x0700_0000;
     store[11] = 0x07ff_ffff;
     let tape = written_and_loaded(&store, record(), Some(b"part"));
-    let expected: [&[u8]; 6] = [
+    let expected: [&[u8]; 7] = [
         &[4, 0, 0, 0, 4, 0, b'p', b'a', b'r', b't'],
         &[8, 0, 0, 0, 1, 0, 0, 0, 0, 0, 4, 3, 2, 1],
         &[12, 0, 0, 0, 1, 0, 5, 0, 0, 0, 5, 0, 0, 0, 0, 0, 0, 7],
         &[8, 0, 0, 0, 1, 0, 11, 0, 0, 0, 0xff, 0xff, 0xff, 7],
         &[
-            20, 0, 0, 0, 2, 0, 3, 2, 1, 0, 6, 5, 4, 0, 9, 8, 7, 0, 12, 11, 10, 0, 0x8d, 6, 2, 0,
+            33, 0, 0, 0, 2, 0, 3, 2, 1, 0, 6, 5, 4, 0, 9, 8, 7, 0, 12, 11, 10, 0, 0x8d, 6, 2, 0,
         ],
+        &[4, 3, 2, 0xf1, 8, 7, 6, 5, 4, 3, 2, 1, 23],
         &[0, 0, 0, 0, 3, 0],
     ];
     assert_eq!(tape, expected.concat());
@@ -92,9 +97,10 @@ fn the_flags_of_each_mode() {
 #[test]
 fn a_store_of_zeros_has_no_block() {
     let tape = written_and_loaded(&[0; 4096], Control::fresh(), None);
-    let mut expected = vec![20, 0, 0, 0, 2, 0];
+    let mut expected = vec![33, 0, 0, 0, 2, 0];
     expected.extend([0; 16]);
     expected.extend([128, 0, 5, 0]);
+    expected.extend([0; 13]);
     expected.extend([0, 0, 0, 0, 3, 0]);
     assert_eq!(tape, expected);
 }
@@ -160,7 +166,7 @@ fn remarks_of_every_kind() {
 }
 
 /// A store with one block, whose tape has this many bytes, a multiple of 4 and
-/// 2 more.
+/// 3 more.
 fn store_for(length: usize) -> Vec<u32> {
     let cells = (length - LAST_RECORDS - 10) / 4;
     let mut store = vec![0; cells + 3];
@@ -170,29 +176,30 @@ fn store_for(length: usize) -> Vec<u32> {
 
 #[test]
 fn tapes_about_the_most_bytes() {
-    // One block: its length and 42 make 65,534 and 65,538.
-    let longest = store_for(65_534);
-    assert_eq!(written_and_loaded(&longest, record(), None).len(), 65_534);
-    let refused = written(&store_for(65_538), record(), None);
+    // One block: its cells and 55 bytes make 65,535 and 65,539.
+    let longest = store_for(65_535);
+    assert_eq!(written_and_loaded(&longest, record(), None).len(), 65_535);
+    let refused = written(&store_for(65_539), record(), None);
     assert_eq!(refused, Err(Refusal::WrittenLength));
-    // Two blocks: 65,528, 65,532, 65,536 and 65,540.
+    // Two blocks and a remark of 1: 65,528, 65,532, 65,536 and 65,540.
     let mut cells = vec![7; 16_400];
     cells[5] = 0;
-    for (count, length) in [(16_370, 65_528), (16_371, 65_532), (16_372, 65_536)] {
-        let tape = written_and_loaded(&cells[..count], record(), None);
+    let text: Option<&[u8]> = Some(b".");
+    for (count, length) in [(16_365, 65_528), (16_366, 65_532), (16_367, 65_536)] {
+        let tape = written_and_loaded(&cells[..count], record(), text);
         assert_eq!(tape.len(), length);
     }
-    let refused = written(&cells[..16_373], record(), None);
+    let refused = written(&cells[..16_368], record(), text);
     assert_eq!(refused, Err(Refusal::WrittenLength));
 }
 
 #[test]
 fn remarks_up_to_the_most_bytes() {
-    let store = store_for(65_526);
-    let text = [b'.'; 5];
-    for length in 0..=4 {
+    let store = store_for(65_527);
+    let text = [b'.'; 4];
+    for length in 0..=3 {
         let tape = written_and_loaded(&store, record(), Some(&text[..length]));
-        assert_eq!(tape.len(), 65_532 + length);
+        assert_eq!(tape.len(), 65_533 + length);
     }
     let refused = written(&store, record(), Some(&text));
     assert_eq!(refused, Err(Refusal::WrittenLength));
@@ -200,7 +207,7 @@ fn remarks_up_to_the_most_bytes() {
 
 #[test]
 fn buffers_about_the_length_of_the_tape() {
-    let stores = [vec![0; 8], vec![1, 0, 2, 3, 0, 0, 0, 4], store_for(65_534)];
+    let stores = [vec![0; 8], vec![1, 0, 2, 3, 0, 0, 0, 4], store_for(65_535)];
     for store in stores {
         let tape = written(&store, record(), None).unwrap();
         let length = tape.len();
@@ -234,6 +241,12 @@ fn refusals_in_their_order() {
         ..Control::fresh()
     };
     let right = Control::fresh();
+    let late = Control {
+        period: 7,
+        phase: 7,
+        line: 3,
+        ..right
+    };
     let long = [b'.'; 256];
     let mut store = vec![7; 20_000];
     store[19_999] = 134_217_728;
@@ -243,6 +256,7 @@ fn refusals_in_their_order() {
     assert_eq!(refusal(&store, wrong, text, 0), Refusal::CellValue);
     let store = &store[..19_999];
     assert_eq!(refusal(store, wrong, text, 0), Refusal::ControlField);
+    assert_eq!(refusal(store, late, text, 0), Refusal::Timer);
     assert_eq!(refusal(store, right, text, 0), Refusal::RemarkLength);
     let text = Some(&long[..255]);
     assert_eq!(refusal(store, right, text, 0), Refusal::WrittenLength);

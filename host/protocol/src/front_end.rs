@@ -26,6 +26,10 @@ const NEVER_TESTED: Control = Control {
     monitor: false,
     enabled: true,
     reset: true,
+    elapsed: u32::MAX,
+    period: u32::MAX,
+    phase: u32::MAX,
+    line: u8::MAX,
 };
 
 /// A machine and its store. Between requests every cell of the store is zero.

@@ -1,13 +1,13 @@
 //! The case protocol: one request a line, one answer a line.
 //!
 //! Numbers are decimal, fields are separated by one space. `cells` is a list
-//! `i=v,i=v,..` of the cells that are not zero, `-` for none; `ctl` is nine
-//! fields, `ic ir im pending pr ex monitor enabled reset`, the last three 0 or
-//! 1; `tape` is lower-case hex, `-` for no byte. `dev0 dev1` are the device
-//! buffer registers, `chars` the reader's characters in hex, `typing` the typing
-//! buffer with what it holds, in an answer the whole buffer after the run. In
-//! `write`, `remark` is `none`, `-` for an empty one, or hex, and `buffer` the
-//! length of the output buffer.
+//! `i=v,i=v,..` of the cells that are not zero, `-` for none; `ctl` is thirteen
+//! fields, `ic ir im pending pr ex monitor enabled reset elapsed period phase
+//! line`, those from `monitor` to `reset` 0 or 1; `tape` is lower-case hex, `-`
+//! for no byte. `dev0 dev1` are the device buffer registers, `chars` the reader's
+//! characters in hex, `typing` the typing buffer with what it holds, in an answer
+//! the whole buffer after the run. In `write`, `remark` is `none`, `-` for an
+//! empty one, or hex, and `buffer` the length of the output buffer.
 //!
 //! | request | answer |
 //! |---|---|

@@ -17,6 +17,10 @@ fn to_library(control: &Control) -> rc4000::Control {
         monitor: control.monitor,
         enabled: control.enabled,
         reset: control.reset,
+        elapsed: control.elapsed,
+        period: control.period,
+        phase: control.phase,
+        line: control.line,
     }
 }
 
@@ -31,6 +35,10 @@ fn from_library(control: &rc4000::Control) -> Control {
         monitor: control.monitor,
         enabled: control.enabled,
         reset: control.reset,
+        elapsed: control.elapsed,
+        period: control.period,
+        phase: control.phase,
+        line: control.line,
     }
 }
 

@@ -199,20 +199,27 @@ fn flag(field: &str) -> Result<bool, Bad> {
 }
 
 fn control_fields(fields: &[&str]) -> Result<Control, Bad> {
-    match *fields {
-        [ic, ir, im, pending, pr, ex, monitor, enabled, reset] => Ok(Control {
-            ic: number(ic)?,
-            ir: number(ir)?,
-            im: number(im)?,
-            pending: number(pending)?,
-            pr: number(pr)?,
-            ex: number(ex)?,
-            monitor: flag(monitor)?,
-            enabled: flag(enabled)?,
-            reset: flag(reset)?,
-        }),
-        _ => Err(Bad),
-    }
+    let [ic, ir, im, pending, pr, ex, ref flags_and_times @ ..] = *fields else {
+        return Err(Bad);
+    };
+    let [monitor, enabled, reset, elapsed, period, phase, line] = *flags_and_times else {
+        return Err(Bad);
+    };
+    Ok(Control {
+        ic: number(ic)?,
+        ir: number(ir)?,
+        im: number(im)?,
+        pending: number(pending)?,
+        pr: number(pr)?,
+        ex: number(ex)?,
+        monitor: flag(monitor)?,
+        enabled: flag(enabled)?,
+        reset: flag(reset)?,
+        elapsed: number(elapsed)?,
+        period: number(period)?,
+        phase: number(phase)?,
+        line: number(line)?,
+    })
 }
 
 fn listed(size: &str, field: &str) -> Result<Listed, Bad> {
@@ -277,7 +284,7 @@ pub(crate) fn write_cells(formatter: &mut fmt::Formatter, cells: &[(usize, u32)]
     Ok(())
 }
 
-/// Writes the nine fields of a control record.
+/// Writes the thirteen fields of a control record.
 pub(crate) fn write_control(formatter: &mut fmt::Formatter, control: &Control) -> fmt::Result {
     let Control {
         ic,
@@ -286,13 +293,18 @@ pub(crate) fn write_control(formatter: &mut fmt::Formatter, control: &Control) -
         pending,
         pr,
         ex,
+        elapsed,
+        period,
+        phase,
+        line,
         ..
     } = *control;
     let [monitor, enabled, reset] =
         [control.monitor, control.enabled, control.reset].map(u32::from);
     write!(
         formatter,
-        "{ic} {ir} {im} {pending} {pr} {ex} {monitor} {enabled} {reset}"
+        "{ic} {ir} {im} {pending} {pr} {ex} {monitor} {enabled} {reset} \
+         {elapsed} {period} {phase} {line}"
     )
 }
 

@@ -14,6 +14,10 @@ pub struct ControlRecord {
     pub monitor: u8,
     pub enabled: u8,
     pub reset: u8,
+    pub elapsed: u32,
+    pub period: u32,
+    pub phase: u32,
+    pub line: u8,
 }
 
 #[repr(C)]
@@ -108,23 +112,27 @@ extern "C" {
 
 const _: () = {
     use std::mem::{offset_of, size_of};
-    assert!(size_of::<ControlRecord>() == 28);
+    assert!(size_of::<ControlRecord>() == 44);
     assert!(offset_of!(ControlRecord, monitor) == 24);
     assert!(offset_of!(ControlRecord, enabled) == 25);
     assert!(offset_of!(ControlRecord, reset) == 26);
+    assert!(offset_of!(ControlRecord, elapsed) == 28);
+    assert!(offset_of!(ControlRecord, period) == 32);
+    assert!(offset_of!(ControlRecord, phase) == 36);
+    assert!(offset_of!(ControlRecord, line) == 40);
     assert!(size_of::<Devices>() == 8);
     assert!(offset_of!(Devices, typewriter) == 4);
-    assert!(size_of::<CallResult>() == 72);
-    assert!(offset_of!(CallResult, outcome) == 28);
-    assert!(offset_of!(CallResult, devices) == 44);
-    assert!(offset_of!(CallResult, taken) == 56);
-    assert!(offset_of!(CallResult, typed) == 64);
-    assert!(size_of::<State>() == 32);
-    assert!(offset_of!(State, refusal) == 28);
-    assert!(size_of::<Autoloaded>() == 48);
-    assert!(offset_of!(Autoloaded, refusal) == 28);
-    assert!(offset_of!(Autoloaded, devices) == 32);
-    assert!(offset_of!(Autoloaded, taken) == 40);
+    assert!(size_of::<CallResult>() == 88);
+    assert!(offset_of!(CallResult, outcome) == 44);
+    assert!(offset_of!(CallResult, devices) == 60);
+    assert!(offset_of!(CallResult, taken) == 72);
+    assert!(offset_of!(CallResult, typed) == 80);
+    assert!(size_of::<State>() == 48);
+    assert!(offset_of!(State, refusal) == 44);
+    assert!(size_of::<Autoloaded>() == 64);
+    assert!(offset_of!(Autoloaded, refusal) == 44);
+    assert!(offset_of!(Autoloaded, devices) == 48);
+    assert!(offset_of!(Autoloaded, taken) == 56);
     assert!(size_of::<Text>() == 24);
     assert!(offset_of!(Text, found) == 4);
     assert!(offset_of!(Text, start) == 8);
@@ -144,6 +152,10 @@ impl From<Control> for ControlRecord {
             monitor: control.monitor.into(),
             enabled: control.enabled.into(),
             reset: control.reset.into(),
+            elapsed: control.elapsed,
+            period: control.period,
+            phase: control.phase,
+            line: control.line,
         }
     }
 }
@@ -160,6 +172,10 @@ impl From<ControlRecord> for Control {
             monitor: flag(record.monitor),
             enabled: flag(record.enabled),
             reset: flag(record.reset),
+            elapsed: record.elapsed,
+            period: record.period,
+            phase: record.phase,
+            line: record.line,
         }
     }
 }

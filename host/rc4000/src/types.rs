@@ -33,6 +33,10 @@ pub const fn line(number: u32) -> u32 {
 
 /// The control record of a machine. Reset state implies monitor mode and
 /// interrupts disabled.
+///
+/// Times are in tenths of a microsecond, by the manual's Appendix A.3; an
+/// interruption entry takes 75. A run adds to `elapsed` and `phase`; keys and
+/// loads take no time, and no instruction changes `period` or `line`.
 #[derive(Clone, Copy, Debug, PartialEq, Eq, Hash)]
 pub struct Control {
     /// Instruction counter, 24 bits.
@@ -53,6 +57,15 @@ pub struct Control {
     pub enabled: bool,
     /// The reset state.
     pub reset: bool,
+    /// Time run, modulo 2^32.
+    pub elapsed: u32,
+    /// Period of the interval timer, 0 for off.
+    pub period: u32,
+    /// Time since the last interval began, below the period; kept while the
+    /// timer is off.
+    pub phase: u32,
+    /// Line that the timer raises at the end of each interval, 3 to 23.
+    pub line: u8,
 }
 
 impl Control {
@@ -79,7 +92,30 @@ impl Control {
             monitor: true,
             enabled: false,
             reset: true,
+            elapsed: 0,
+            period: 0,
+            phase: 0,
+            line: 0,
         }
+    }
+
+    /// Begins an interval now: the timer raises `line`, 3 to 23, at the end of
+    /// the cycle in which each `period` tenths of a microsecond end. Period 0
+    /// stops it. The line is taken where it is masked in and interrupts are
+    /// enabled.
+    ///
+    /// ```
+    /// use rc4000::{line, Control};
+    ///
+    /// let mut control = Control::fresh();
+    /// control.im |= line(5);
+    /// control.set_interval(10_000, 5); // a millisecond
+    /// assert_eq!((control.period, control.phase, control.line), (10_000, 0, 5));
+    /// ```
+    pub fn set_interval(&mut self, period: u32, line: u8) {
+        self.period = period;
+        self.phase = 0;
+        self.line = line;
     }
 }
 
@@ -174,6 +210,9 @@ pub enum Refusal {
     BufferLength = 16,
     /// 17: a block names a cell that an earlier block of the tape names.
     BlockOverlap = 17,
+    /// 18: a timer line outside 3 to 23 or a phase not below the period, where
+    /// the period is not 0.
+    Timer = 18,
 }
 
 impl Refusal {
@@ -208,6 +247,9 @@ impl Refusal {
             Refusal::WrittenLength => "a machine whose tape would pass 65,536 bytes",
             Refusal::BufferLength => "a buffer shorter than the tape",
             Refusal::BlockOverlap => "a block names a cell that an earlier block of the tape names",
+            Refusal::Timer => {
+                "a timer line outside 3 to 23 or a phase not below the period, where the period is not 0"
+            }
         }
     }
 
@@ -231,6 +273,7 @@ impl Refusal {
             15 => Refusal::WrittenLength,
             16 => Refusal::BufferLength,
             17 => Refusal::BlockOverlap,
+            18 => Refusal::Timer,
             _ => return None,
         })
     }

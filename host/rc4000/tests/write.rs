@@ -22,18 +22,24 @@ fn machine() -> Machine {
         monitor: true,
         enabled: true,
         reset: false,
+        elapsed: 0xf1_02_03_04,
+        period: 0x05_06_07_08,
+        phase: 0x01_02_03_04,
+        line: 23,
     };
     machine
 }
 
-/// The tape of `machine` with the remark `AB`, by the layout of document 01.
-const TAPE: [u8; 86] = [
+/// The tape of `machine` with the remark `AB`, by the layout of documents 01 and
+/// 02.
+const TAPE: [u8; 99] = [
     2, 0, 0, 0, 4, 0, b'A', b'B', // remark
     12, 0, 0, 0, 1, 0, 0, 0, 0, 0, 255, 255, 255, 7, 1, 0, 0, 0, // cells 0 and 1
     8, 0, 0, 0, 1, 0, 4, 0, 0, 0, 0, 0, 0, 3, // cell 4
     8, 0, 0, 0, 1, 0, 15, 0, 0, 0, 3, 2, 1, 0, // cell 15
-    20, 0, 0, 0, 2, 0, 0x33, 0x22, 0x11, 0, 0, 0, 16, 0, // control record: IC, IR,
-    255, 255, 255, 0, 6, 0, 0, 0, 255, 5, 3, 0, // IM, pending, PR, EX, flags
+    33, 0, 0, 0, 2, 0, 0x33, 0x22, 0x11, 0, 0, 0, 16, 0, // control record: IC, IR,
+    255, 255, 255, 0, 6, 0, 0, 0, 255, 5, 3, 0, // IM, pending, PR, EX, flags,
+    4, 3, 2, 0xf1, 8, 7, 6, 5, 4, 3, 2, 1, 23, // elapsed, period, phase, line
     0, 0, 0, 0, 3, 0, // end
 ];
 
@@ -95,8 +101,8 @@ fn machine_tape() -> Vec<u8> {
 fn no_remark_and_an_empty_one_differ() {
     let machine = Machine::fresh(8);
     let (none, empty) = (machine.write(None), machine.write(Some(b"")));
-    assert_eq!(none.as_ref().map(Vec::len), Ok(32));
-    assert_eq!(empty.as_ref().map(Vec::len), Ok(38));
+    assert_eq!(none.as_ref().map(Vec::len), Ok(45));
+    assert_eq!(empty.as_ref().map(Vec::len), Ok(51));
     assert_eq!(empty.unwrap()[6..], none.unwrap());
 }
 
@@ -140,13 +146,16 @@ fn refusals_in_their_order() {
     wrong.store[6] = 1;
     refused(Refusal::ControlField, &wrong, Some(long), 0);
     wrong.control.pr = 128;
+    wrong.control.set_interval(1, 24);
+    refused(Refusal::Timer, &wrong, Some(long), 0);
+    wrong.control.line = 23;
     refused(Refusal::RemarkLength, &wrong, Some(long), 0);
     refused(Refusal::WrittenLength, &wrong, Some(&long[1..]), 0);
     refused(Refusal::WrittenLength, &wrong, None, 100_000);
     wrong.store.truncate(8);
-    refused(Refusal::BufferLength, &wrong, Some(&long[1..]), 310);
-    refused(Refusal::BufferLength, &wrong, None, 49);
-    assert_eq!(wrong.write(None).map(|tape| tape.len()), Ok(50));
+    refused(Refusal::BufferLength, &wrong, Some(&long[1..]), 323);
+    refused(Refusal::BufferLength, &wrong, None, 62);
+    assert_eq!(wrong.write(None).map(|tape| tape.len()), Ok(63));
     assert_eq!(wrong.write(Some(long)), Err(Refusal::RemarkLength));
     assert_eq!(too_long().write(None), Err(Refusal::WrittenLength));
 }
@@ -155,21 +164,22 @@ fn refusals_in_their_order() {
 fn a_tape_of_65_536_bytes_is_written() {
     let mut machine = too_long();
     machine.store[100] = 0;
-    machine.store[16_372..].fill(0);
-    let tape = machine.write(None).unwrap();
+    machine.store[16_367..].fill(0);
+    let text = Some(&b"."[..]);
+    let tape = machine.write(text).unwrap();
     assert_eq!(tape.len(), LONGEST_TAPE);
     let (mut store, mut control) = (vec![0; 20_000], Control::fresh());
     load(&mut store, &mut control, &tape).unwrap();
     assert_eq!(store, machine.store);
-    refused(Refusal::BufferLength, &machine, None, LONGEST_TAPE - 1);
+    refused(Refusal::BufferLength, &machine, text, LONGEST_TAPE - 1);
     refused(
         Refusal::WrittenLength,
         &machine,
-        Some(b""),
-        LONGEST_TAPE + 6,
+        Some(b".."),
+        LONGEST_TAPE + 1,
     );
-    machine.store[16_372] = 1;
-    refused(Refusal::WrittenLength, &machine, None, LONGEST_TAPE + 4);
+    machine.store[16_367] = 1;
+    refused(Refusal::WrittenLength, &machine, text, LONGEST_TAPE + 4);
 }
 
 #[test]

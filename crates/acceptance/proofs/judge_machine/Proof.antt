@@ -5,63 +5,52 @@ use borrow.Author.Needs.{needs}
 use Rattle.acceptance.proofs.judge_machine.Statement.{statement}
 use Rattle.acceptance.proofs.judge_machine.Tie as tie
 
-size-fits-requires : tie.Need-size-fits-requires
-size-fits-requires c κs = search needs
+judge-registers-requires : tie.Need-judge-registers-requires
+judge-registers-requires c κs = search needs
+
+enum-told : tie.Need-enum-told
+enum-told c = search needs
+
+timer-fits-requires : tie.Need-timer-fits-requires
+timer-fits-requires c κs = search needs
 
 returns : tie.Need-returns
 unfolding judgeMachine
-returns c = rw (← (c .before .size-fits .ensures), not-true (c .before .size-fits .result) (c .if1 .taken))
+returns c =
+    let b4 = c .before .before .before .before in
+    rw (
+      ← (b4 .judge-registers .ensures),
+      c .before .before .enum-told .given .1,
+      ← (c .before .timer-fits .ensures),
+      not-true (c .before .timer-fits .result) (c .if1 .taken),
+    )
 
-cells-fit-requires : tie.Need-cells-fit-requires
-cells-fit-requires c κs = search needs
+enum-known-v : tie.Need-enum-known-v
+enum-known-v c = search needs
 
 returns-2 : tie.Need-returns-2
 unfolding judgeMachine
 returns-2 c =
+    let b4 = c .before .before .before .before in
     rw (
-      ← (c .before .before .before .size-fits .ensures),
-      not-false (c .before .before .before .size-fits .result) (c .before .before .if1 .left),
-      ← (c .before .cells-fit .ensures),
-      not-true (c .before .cells-fit .result) (c .if2 .taken),
+      ← (b4 .judge-registers .ensures),
+      c .before .before .enum-told .given .1,
+      ← (c .before .timer-fits .ensures),
+      not-false (c .before .timer-fits .result) (c .if1 .left),
     )
-
-control-fits-requires : tie.Need-control-fits-requires
-control-fits-requires c κs = search needs
 
 returns-3 : tie.Need-returns-3
 unfolding judgeMachine
-returns-3 c =
-    let b4 = c .before .before .before .before in
-    rw (
-      ← (b4 .before .size-fits .ensures),
-      not-false (b4 .before .size-fits .result) (b4 .if1 .left),
-      ← (c .before .before .before .cells-fit .ensures),
-      not-false (c .before .before .before .cells-fit .result) (c .before .before .if2 .left),
-      ← (c .before .control-fits .ensures),
-      not-true (c .before .control-fits .result) (c .if3 .taken),
-    )
-
-returns-4 : tie.Need-returns-4
-unfolding judgeMachine
-returns-4 c =
-    let b4 = c .before .before .before .before in
-    rw (
-      ← (b4 .before .size-fits .ensures),
-      not-false (b4 .before .size-fits .result) (b4 .if1 .left),
-      ← (c .before .before .before .cells-fit .ensures),
-      not-false (c .before .before .before .cells-fit .result) (c .before .before .if2 .left),
-      ← (c .before .control-fits .ensures),
-      not-false (c .before .control-fits .result) (c .if3 .left),
-    )
+returns-3 c = rw (← (c .before .before .before .judge-registers .ensures), c .before .v .given .1)
 
 pub judge-machine-spec : {M : Type 1} → statement M
 judge-machine-spec =
     tie.close
     (tie.spec
-    size-fits-requires
+    judge-registers-requires
+    enum-told
+    timer-fits-requires
     returns
-    cells-fit-requires
+    enum-known-v
     returns-2
-    control-fits-requires
-    returns-3
-    returns-4)
+    returns-3)

@@ -3,8 +3,8 @@ use borrow.Author.Needs.{needs}
 use Rattle.capi.proofs.rc4000_overlay.Statement.{statement}
 use Rattle.capi.proofs.rc4000_overlay.Tie as tie
 
-control-requires : tie.Need-control-requires
-control-requires c κs = search needs
+record-requires : tie.Need-record-requires
+record-requires c κs = search needs
 
 overlay-requires : tie.Need-overlay-requires
 overlay-requires c κs = search needs
@@ -19,7 +19,7 @@ returns : tie.Need-returns
 unfolding overlayCall
 returns c = let b4 = c .before .before .before .before in
     let e = c .before .before .before .overlay .ensures in rw (
-      ← (b4 .before .control .ensures),
+      ← (b4 .before .«record» .ensures),
       ← (e .0),
       ← (e .1),
       ← (c .state-result .ensures),
@@ -27,4 +27,4 @@ returns c = let b4 = c .before .before .before .before in
 
 pub rc4000-overlay-spec : {M : Type 1} → statement M
 rc4000-overlay-spec =
-    tie.close (tie.spec control-requires overlay-requires state-result-requires same-length returns)
+    tie.close (tie.spec record-requires overlay-requires state-result-requires same-length returns)

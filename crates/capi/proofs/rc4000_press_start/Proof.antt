@@ -9,8 +9,8 @@ judge-flags-requires c κs = search needs
 enum-told : tie.Need-enum-told
 enum-told c = search needs
 
-control-requires : tie.Need-control-requires
-control-requires c κs = search needs
+record-requires : tie.Need-record-requires
+record-requires c κs = search needs
 
 press-start-requires : tie.Need-press-start-requires
 press-start-requires c κs = search needs
@@ -34,7 +34,7 @@ returns c = let b4 = c .before .before .before .before in
     rw (
       ← (b8 .judge-flags .ensures),
       b4 .before .before .enum-told .given .1,
-      ← (b4 .before .control .ensures),
+      ← (b4 .before .«record» .ensures),
       ← (c .before .before .before .press-start .ensures),
       ← (c .state-result .ensures),
     )
@@ -52,7 +52,7 @@ rc4000-press-start-spec =
     (tie.spec
     judge-flags-requires
     enum-told
-    control-requires
+    record-requires
     press-start-requires
     state-result-requires
     enum-known-v

@@ -9,8 +9,8 @@ judge-flags-requires c κs = search needs
 enum-told : tie.Need-enum-told
 enum-told c = search needs
 
-control-requires : tie.Need-control-requires
-control-requires c κs = search needs
+record-requires : tie.Need-record-requires
+record-requires c κs = search needs
 
 run-requires : tie.Need-run-requires
 run-requires c κs = search needs
@@ -34,7 +34,7 @@ returns c = let b4 = c .before .before .before .before in
     rw (
       ← (b8 .before .before .before .judge-flags .ensures),
       b8 .before .enum-told .given .1,
-      ← (b8 .control .ensures),
+      ← (b8 .«record» .ensures),
       ← (b4 .before .run .ensures .0),
       ← (c .run-result .ensures),
     )
@@ -55,7 +55,7 @@ rc4000-run-spec =
     (tie.spec
     judge-flags-requires
     enum-told
-    control-requires
+    record-requires
     run-requires
     run-result-requires
     enum-known-v

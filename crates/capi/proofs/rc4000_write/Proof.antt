@@ -9,8 +9,8 @@ judge-flags-requires c κs = search needs
 enum-told : tie.Need-enum-told
 enum-told c = search needs
 
-control-requires : tie.Need-control-requires
-control-requires c κs = search needs
+record-requires : tie.Need-record-requires
+record-requires c κs = search needs
 
 write-requires : tie.Need-write-requires
 write-requires c κs = search needs
@@ -36,7 +36,7 @@ returns c =
     rw (
       ← (b8 .judge-flags .ensures),
       b4 .before .before .enum-told .given .1,
-      ← (b4 .before .control .ensures),
+      ← (b4 .before .«record» .ensures),
       ← (e .0),
       ← (e .1),
       ← (c .write-result .ensures),
@@ -54,7 +54,7 @@ rc4000-write-spec =
     (tie.spec
     judge-flags-requires
     enum-told
-    control-requires
+    record-requires
     write-requires
     write-result-requires
     enum-known-v

@@ -1,6 +1,8 @@
+use mathlib.Core.Path.{_∙_}
 use Rattle.cycle.proofs.Steps.{cycle-fetch, entered-with}
 use Rattle.definition_runs.specs.Cycle.{cycle}
 use borrow.Author.Tests.{lt-ltb}
+use Rattle.cycle.proofs.Times.{passing-is, time-line, time-executed, time-entered, set-back}
 use borrow.Author.Needs.{needs}
 use Rattle.cycle.proofs.cycle.Statement.{statement}
 use Rattle.cycle.proofs.cycle.Tie as tie
@@ -17,8 +19,11 @@ mul-enter c = search needs
 enter-requires : tie.Need-enter-requires
 enter-requires c κs = search needs
 
-mul-t14 : tie.Need-mul-t14
-mul-t14 c = search needs
+advance-requires : tie.Need-advance-requires
+advance-requires c κs = search needs
+
+mul-t16 : tie.Need-mul-t16
+mul-t16 c = search needs
 
 same-length : tie.Need-same-length
 same-length c = search needs
@@ -26,16 +31,12 @@ same-length c = search needs
 returns : tie.Need-returns
 unfolding cycle
 returns c = (
-  let b4 = c .before .before .before .before in
-      let b8 = b4 .before .before .before .before in
-      rw (
-        ← (b8 .line-of .ensures .0),
-        lt-ltb _ _ (b4 .before .before .before .if1 .taken),
-        ← (b4 .before .clear-line .ensures .0),
-        ← (c .before .before .enter .ensures .0),
-      ),
-  (search needs, search needs),
+  rw (← (c .before .before .before .before .before .before .before .before .before .before .line-of .ensures .0), lt-ltb _ _ (c .before .before .before .before .before .before .before .before .before .if1 .taken), ← (c .before .before .before .before .before .before .before .clear-line .ensures .0), ← (c .before .before .before .before .enter .ensures .0)),
+  (search needs, (search needs, (passing-is _ _ _ (time-line _ _ (c .before .before .before .before .before .before .before .before .before .before .line-of .ensures .0) (c .before .before .before .before .before .before .before .before .before .if1 .taken)) (c .advance .ensures .0), search needs))),
 )
+
+passed-requires : tie.Need-passed-requires
+passed-requires c κs = search needs
 
 fetch-requires : tie.Need-fetch-requires
 fetch-requires c κs = search needs
@@ -52,6 +53,9 @@ enum-told-3 c = search needs
 enter-requires-2 : tie.Need-enter-requires-2
 enter-requires-2 c κs = search needs
 
+enter-requires-3 : tie.Need-enter-requires-3
+enter-requires-3 c κs = search needs
+
 same-length-2 : tie.Need-same-length-2
 same-length-2 c = search needs
 
@@ -60,11 +64,8 @@ same-length-3 c = search needs
 
 returns-2 : tie.Need-returns-2
 returns-2 c = (
-  let b4 = c .before .before .before .before in
-      let b8 = b4 .before .before .before .before in
-      let b12 = b8 .before .before .before .before in
-      rw (c .enum-told .given .1) at (cycle-fetch _ _ _ _ _ (b12 .line-of .ensures .0) (b8 .before .before .before .if1 .left) (b4 .before .before .fetch .ensures .0)),
-  (search needs, search needs),
+  rw (c .enum-told .given .1) at (cycle-fetch _ _ _ _ _ (c .before .before .before .before .before .before .before .before .before .before .before .before .before .before .before .line-of .ensures .0) (c .before .before .before .before .before .before .before .before .before .before .before .before .before .before .if1 .left) (c .before .before .before .before .before .before .fetch .ensures .0)),
+  (search needs, (search needs, (passing-is _ _ _ (time-executed _ _ (rw (c .enum-told .given .1) at (cycle-fetch _ _ _ _ _ (c .before .before .before .before .before .before .before .before .before .before .before .before .before .before .before .line-of .ensures .0) (c .before .before .before .before .before .before .before .before .before .before .before .before .before .before .if1 .left) (c .before .before .before .before .before .before .fetch .ensures .0)))) (rw (c .enum-told .given .1) at (c .before .before .before .before .before .before .fetch .ensures .1 .1 .1 .0)), search needs))),
 )
 
 same-length-4 : tie.Need-same-length-4
@@ -75,11 +76,8 @@ same-length-5 c = search needs
 
 returns-3 : tie.Need-returns-3
 returns-3 c = (
-  let b4 = c .before .before .before .before in
-      let b8 = b4 .before .before .before .before in
-      let b12 = b8 .before .before .before .before in
-      rw (c .enum-told2 .given .1) at (cycle-fetch _ _ _ _ _ (b12 .line-of .ensures .0) (b8 .before .before .before .if1 .left) (b4 .before .before .fetch .ensures .0)),
-  (search needs, search needs),
+  rw (c .enum-told2 .given .1) at (cycle-fetch _ _ _ _ _ (c .before .before .before .before .before .before .before .before .before .before .before .before .before .before .before .line-of .ensures .0) (c .before .before .before .before .before .before .before .before .before .before .before .before .before .before .if1 .left) (c .before .before .before .before .before .before .fetch .ensures .0)),
+  (search needs, (search needs, (passing-is _ _ _ (time-executed _ _ (rw (c .enum-told2 .given .1) at (cycle-fetch _ _ _ _ _ (c .before .before .before .before .before .before .before .before .before .before .before .before .before .before .before .line-of .ensures .0) (c .before .before .before .before .before .before .before .before .before .before .before .before .before .before .if1 .left) (c .before .before .before .before .before .before .fetch .ensures .0)))) (rw (c .enum-told2 .given .1) at (c .before .before .before .before .before .before .fetch .ensures .1 .1 .1 .0)), search needs))),
 )
 
 same-length-6 : tie.Need-same-length-6
@@ -90,12 +88,17 @@ same-length-7 c = search needs
 
 returns-4 : tie.Need-returns-4
 returns-4 c = (
-  let b4 = c .before .before .before .before in
-      let b8 = b4 .before .before .before .before in
-      let b12 = b8 .before .before .before .before in
-      let b16 = b12 .before .before .before .before in
-      entered-with (c .before .before .enter2 .ensures .0) (rw (b4 .before .enum-told3 .given .1) at (cycle-fetch _ _ _ _ _ (b16 .before .line-of .ensures .0) (b16 .if1 .left) (b8 .before .before .before .fetch .ensures .0))),
-  (search needs, search needs),
+  entered-with (c .before .before .before .before .enter2 .ensures .0) (rw (c .before .before .before .before .before .before .before .enum-told3 .given .1) at (cycle-fetch _ _ _ _ _ (c .before .before .before .before .before .before .before .before .before .before .before .before .before .before .before .before .before .before .before .before .before .before .line-of .ensures .0) (c .before .before .before .before .before .before .before .before .before .before .before .before .before .before .before .before .before .before .before .before .before .if1 .left) (c .before .before .before .before .before .before .before .before .before .before .before .before .before .fetch .ensures .0))),
+  (
+    search needs,
+    (
+      search needs,
+      (
+        passing-is _ _ _ (time-entered _ _ _ (rw (c .before .before .before .before .before .before .before .enum-told3 .given .1) at (cycle-fetch _ _ _ _ _ (c .before .before .before .before .before .before .before .before .before .before .before .before .before .before .before .before .before .before .before .before .before .before .line-of .ensures .0) (c .before .before .before .before .before .before .before .before .before .before .before .before .before .before .before .before .before .before .before .before .before .if1 .left) (c .before .before .before .before .before .before .before .before .before .before .before .before .before .fetch .ensures .0)))) (c .enter3 .ensures .0 ∙ set-back _ _ _ _ (c .before .before .before .before .before .before .before .before .before .before .before .before .before .before .before .before .before .before .before .passed .ensures) (rw (c .before .before .before .before .before .before .before .enum-told3 .given .1) at (c .before .before .before .before .before .before .before .before .before .before .before .before .before .fetch .ensures .1 .1 .1 .0))),
+        search needs,
+      ),
+    ),
+  ),
 )
 
 pub cycle-spec : {M : Type 1} → statement M
@@ -106,14 +109,17 @@ cycle-spec =
     clear-line-requires
     mul-enter
     enter-requires
-    mul-t14
+    advance-requires
+    mul-t16
     same-length
     returns
+    passed-requires
     fetch-requires
     enum-told
     enum-told-2
     enum-told-3
     enter-requires-2
+    enter-requires-3
     same-length-2
     same-length-3
     returns-2

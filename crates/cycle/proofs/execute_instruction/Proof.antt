@@ -1,4 +1,5 @@
 use Rattle.definition_runs.specs.Cycle.{executeInstruction}
+use Rattle.cycle.proofs.Times.{clock-after-fault, clock-after-twice}
 use borrow.Author.Needs.{needs}
 use Rattle.cycle.proofs.execute_instruction.Statement.{statement}
 use Rattle.cycle.proofs.execute_instruction.Tie as tie
@@ -14,7 +15,7 @@ same-length c = search needs
 
 returns : tie.Need-returns
 unfolding executeInstruction
-returns c = (rw (← (c .before .before .before .effective-address .ensures .0), ← (c .before .is-indirect-absent .ensures), c .if1 .taken), (search needs, search needs))
+returns c = (rw (← (c .before .before .before .effective-address .ensures .0), ← (c .before .is-indirect-absent .ensures), c .if1 .taken), (search needs, (search needs, (clock-after-fault _ _ _ (c .before .before .before .effective-address .ensures .1 .1 .0), search needs))))
 
 execute-requires : tie.Need-execute-requires
 execute-requires c κs = search needs
@@ -28,16 +29,8 @@ same-length-3 c = search needs
 returns-2 : tie.Need-returns-2
 unfolding executeInstruction
 returns-2 c = (
-  let b4 = c .before .before .before .before in
-      let b8 = b4 .before .before .before .before in
-      let b12 = b8 .before .before .before .before in
-      rw (
-        ← (b12 .effective-address .ensures .0),
-        ← (b8 .before .before .is-indirect-absent .ensures),
-        b8 .before .if1 .left,
-        ← (b4 .execute .ensures .0),
-      ),
-  (search needs, search needs),
+  rw (← (c .before .before .before .before .before .before .before .before .before .before .before .before .before .effective-address .ensures .0), ← (c .before .before .before .before .before .before .before .before .before .before .before .is-indirect-absent .ensures), c .before .before .before .before .before .before .before .before .before .before .if1 .left, ← (c .before .before .before .before .execute .ensures .0)),
+  (search needs, (search needs, (rw (← (c .before .before .before .before .before .before .before .before .before .before .before .before .before .effective-address .ensures .0)) (clock-after-twice (c .before .before .before .before .execute .result) _ _ _ _ (c .before .before .before .before .before .before .before .before .before .before .before .before .before .effective-address .ensures .1 .1 .0) (c .before .before .before .before .execute .ensures .1 .1 .1 .0)), search needs))),
 )
 
 pub execute-instruction-spec : {M : Type 1} → statement M

@@ -1,4 +1,6 @@
 use Rattle.cycle.proofs.Steps.{fetch-ending}
+use mathlib.Core.Path.{refl}
+use Rattle.timer_row.specs.Row.{passing, withPassed}
 use borrow.Author.Needs.{needs}
 use Rattle.cycle.proofs.fetch.Statement.{statement}
 use Rattle.cycle.proofs.fetch.Tie as tie
@@ -16,20 +18,11 @@ same-length : tie.Need-same-length
 same-length c = search needs
 
 returns : tie.Need-returns
-returns c = (
-  let b4 = c .before .before .before .before in
-      rw (fetch-ending, ← (rw (b4 .before .ic .ensures) at (c .before .is-fetch-absent .ensures)), c .if1 .taken),
-  (search needs, search needs),
-)
+unfolding passing withPassed
+returns c = (rw (fetch-ending, ← (rw (c .before .before .before .before .before .ic .ensures) at (c .before .is-fetch-absent .ensures)), c .if1 .taken), (search needs, (search needs, (refl, search needs))))
 
 decode-requires : tie.Need-decode-requires
-decode-requires c κs = (
-  let b4 = c .before .before .before .before in
-      let b8 = b4 .before .before .before .before in
-      rw (b8 .before .ic .ensures) at (b4 .before .before .before .fetched .ensures),
-  search needs,
-  search needs,
-)
+decode-requires c κs = (rw (c .before .before .before .before .before .before .before .before .before .before .ic .ensures) at (c .before .before .before .before .before .before .before .before .fetched .ensures), search needs, search needs, search needs)
 
 same-length-2 : tie.Need-same-length-2
 same-length-2 c = search needs
@@ -38,17 +31,7 @@ same-length-3 : tie.Need-same-length-3
 same-length-3 c = search needs
 
 returns-2 : tie.Need-returns-2
-returns-2 c = (
-  let b4 = c .before .before .before .before in
-      let b8 = b4 .before .before .before .before in
-      let b12 = b8 .before .before .before .before in
-      rw (
-        fetch-ending,
-        ← (rw (b12 .before .before .ic .ensures) at (b8 .before .before .is-fetch-absent .ensures)),
-        b8 .before .if1 .left,
-      ) (b4 .decode .ensures .0),
-  (search needs, search needs),
-)
+returns-2 c = (rw (fetch-ending, ← (rw (c .before .before .before .before .before .before .before .before .before .before .before .before .before .before .before .ic .ensures) at (c .before .before .before .before .before .before .before .before .before .before .before .is-fetch-absent .ensures)), c .before .before .before .before .before .before .before .before .before .before .if1 .left) (c .before .before .before .before .decode .ensures .0), (search needs, (search needs, (c .before .before .before .before .decode .ensures .1 .1 .1 .0, search needs))))
 
 pub fetch-spec : {M : Type 1} → statement M
 fetch-spec =

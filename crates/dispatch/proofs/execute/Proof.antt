@@ -23,7 +23,7 @@ same-length-3 c = search needs
 returns-2 : tie.Need-returns-2
 returns-2 c =
     let high = c .before .before .execute-high .ensures in
-    (high .0 _, (high .1, c .before .before .before .before .before .before .before .before .before .pre .2))
+    (high .0 _, (high .1 .0, (c .before .before .before .before .before .before .before .before .before .before .pre .3, (high .1 .1 .0 _, high .1 .1 .1))))
 
 pub execute-spec : {M : Type 1} → statement M
 execute-spec =

@@ -1,4 +1,4 @@
--- Made by tools/prove.py; not to be edited.
+use Rattle.fetch.proofs.Times.{both-times}
 use Rattle.definition_runs.specs.Cycle.{address}
 use borrow.Author.Needs.{needs}
 use Rattle.fetch.proofs.address.Statement.{statement}
@@ -24,16 +24,16 @@ indexed-requires c κs = search needs
 
 returns : tie.Need-returns
 unfolding address
-returns c = (
-  let b4 = c .before .before .before .before in
+returns c =
+    let b4 = c .before .before .before .before in (
       rw (
-        ← (b4 .before .signed-byte .ensures .0),
-        ← (rw (b4 .pending .ensures) at (c .before .before .before .sum24 .ensures .0)),
-        ← (rw (c .before .before .ic .ensures) at (c .before .relative .ensures .0)),
+        ← (b4 .before .before .before .signed-byte .ensures .0),
+        ← (rw (b4 .before .before .pending .ensures) at (b4 .before .sum24 .ensures .0)),
+        ← (rw (b4 .ic .ensures) at (c .before .before .relative .ensures .0)),
         ← (c .indexed .ensures .0),
       ),
-  search needs,
-)
+      (search needs, (both-times _ _ _ (c .before .before .relative .ensures .1 .1 .0) (c .indexed .ensures .1 .1 .0), search needs)),
+    )
 
 pub address-spec : {M : Type 1} → statement M
 address-spec =

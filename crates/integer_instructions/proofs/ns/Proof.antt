@@ -1,4 +1,5 @@
--- Made by tools/prove.py; not to be edited.
+use Rattle.normalize.proofs.Count.{counted}
+use Rattle.definition_times.specs.Times.{operationTime}
 use Rattle.definition_instructions.specs.Codes.{execute}
 use Rattle.definition_instructions.specs.Meaning.{meaning}
 use Rattle.definition_instructions.specs.MicroOps.{executeOperation, microStep, microSteps, monitorStep, monitorSteps}
@@ -12,6 +13,18 @@ word-at-requires c κs = search needs
 normalize-single-requires : tie.Need-normalize-single-requires
 normalize-single-requires c κs = search needs
 
+shifts-made-requires : tie.Need-shifts-made-requires
+shifts-made-requires c κs = search needs
+
+mul-advance : tie.Need-mul-advance
+mul-advance c = search needs
+
+add-advance : tie.Need-add-advance
+add-advance c = search needs
+
+advance-requires : tie.Need-advance-requires
+advance-requires c κs = search needs
+
 put-long-requires : tie.Need-put-long-requires
 put-long-requires c κs = search needs
 
@@ -22,19 +35,19 @@ same-length : tie.Need-same-length
 same-length c = search needs
 
 returns : tie.Need-returns
-unfolding execute executeOperation meaning microSteps microStep monitorSteps monitorStep
-returns c = (
-  let b4 = c .before .before .before .before in
-      let b8 = b4 .before .before .before .before in
+unfolding operationTime execute executeOperation meaning microSteps microStep monitorSteps monitorStep
+returns c =
+    let b4 = c .before .before .before .before in
+    let b8 = b4 .before .before .before .before in (
       rw (
-        ← (b8 .word-at .ensures .0),
-        ← (b4 .before .before .before .normalize-single .ensures .0),
+        ← (b8 .before .before .before .word-at .ensures .0),
+        ← (b8 .before .before .normalize-single .ensures .0),
         ← (b4 .before .put-long .ensures),
         ← (c .before .is-absent .ensures),
         c .if1 .taken,
       ),
-  search needs,
-)
+      (search needs, (rw (← (b8 .before .before .before .word-at .ensures .0), ← (counted 24 _), ← (b8 .before .before .normalize-single .ensures .0), ← (b8 .before .shifts-made .ensures .0)) (b4 .before .before .before .advance .ensures .0), search needs)),
+    )
 
 is-violation-requires : tie.Need-is-violation-requires
 is-violation-requires c κs = search needs
@@ -43,22 +56,22 @@ same-length-2 : tie.Need-same-length-2
 same-length-2 c = search needs
 
 returns-2 : tie.Need-returns-2
-unfolding execute executeOperation meaning microSteps microStep monitorSteps monitorStep
-returns-2 c = (
-  let b4 = c .before .before .before .before in
-      let b8 = b4 .before .before .before .before in
-      let b12 = b8 .before .before .before .before in
+unfolding operationTime execute executeOperation meaning microSteps microStep monitorSteps monitorStep
+returns-2 c =
+    let b4 = c .before .before .before .before in
+    let b8 = b4 .before .before .before .before in
+    let b12 = b8 .before .before .before .before in (
       rw (
-        ← (b12 .word-at .ensures .0),
-        ← (b8 .before .before .before .normalize-single .ensures .0),
+        ← (b12 .before .before .before .word-at .ensures .0),
+        ← (b12 .before .before .normalize-single .ensures .0),
         ← (b8 .before .put-long .ensures),
         ← (b4 .before .is-absent .ensures),
         b4 .if1 .left,
         ← (c .before .is-violation .ensures),
         c .if2 .taken,
       ),
-  search needs,
-)
+      (search needs, (rw (← (b12 .before .before .before .word-at .ensures .0), ← (counted 24 _), ← (b12 .before .before .normalize-single .ensures .0), ← (b12 .before .shifts-made .ensures .0)) (b8 .before .before .before .advance .ensures .0), search needs)),
+    )
 
 put-byte-requires : tie.Need-put-byte-requires
 put-byte-requires c κs = search needs
@@ -67,15 +80,15 @@ same-length-3 : tie.Need-same-length-3
 same-length-3 c = search needs
 
 returns-3 : tie.Need-returns-3
-unfolding execute executeOperation meaning microSteps microStep monitorSteps monitorStep
-returns-3 c = (
-  let b4 = c .before .before .before .before in
-      let b8 = b4 .before .before .before .before in
-      let b12 = b8 .before .before .before .before in
-      let b16 = b12 .before .before .before .before in
+unfolding operationTime execute executeOperation meaning microSteps microStep monitorSteps monitorStep
+returns-3 c =
+    let b4 = c .before .before .before .before in
+    let b8 = b4 .before .before .before .before in
+    let b12 = b8 .before .before .before .before in
+    let b16 = b12 .before .before .before .before in (
       rw (
-        ← (b16 .word-at .ensures .0),
-        ← (b12 .before .before .before .normalize-single .ensures .0),
+        ← (b16 .before .before .before .word-at .ensures .0),
+        ← (b16 .before .before .normalize-single .ensures .0),
         ← (b12 .before .put-long .ensures),
         ← (b8 .before .is-absent .ensures),
         b8 .if1 .left,
@@ -83,8 +96,8 @@ returns-3 c = (
         b4 .if2 .left,
         ← (c .before .before .put-byte .ensures),
       ),
-  search needs,
-)
+      (search needs, (rw (← (b16 .before .before .before .word-at .ensures .0), ← (counted 24 _), ← (b16 .before .before .normalize-single .ensures .0), ← (b16 .before .shifts-made .ensures .0)) (b12 .before .before .before .advance .ensures .0), search needs)),
+    )
 
 pub ns-spec : {M : Type 1} → statement M
 ns-spec =
@@ -92,6 +105,10 @@ ns-spec =
     (tie.spec
     word-at-requires
     normalize-single-requires
+    shifts-made-requires
+    mul-advance
+    add-advance
+    advance-requires
     put-long-requires
     is-absent-requires
     same-length

@@ -7,7 +7,7 @@ autoload-record-requires : tie.Need-autoload-record-requires
 autoload-record-requires c κs = search needs
 
 row-of-requires : tie.Need-row-of-requires
-row-of-requires c κs = narrow _ _ _ (c .before .before .before .before .pre .0) (c .autoload-record .ensures)
+row-of-requires c κs = narrow _ _ _ (c .before .before .before .before .before .before .pre .0) (c .autoload-record .ensures)
 
 channel-of-requires : tie.Need-channel-of-requires
 channel-of-requires c κs = search needs
@@ -16,7 +16,7 @@ autoload-requires : tie.Need-autoload-requires
 autoload-requires c κs = (
   let b4 = c .before .before .before .before in
       let b8 = b4 .before .before .before .before in
-      rw (c .before .before .before .channel-of .ensures .0) (b8 .before .pre .3),
+      rw (c .before .before .before .channel-of .ensures .0) (b8 .before .before .before .pre .3),
   c .before .before .before .before .row-of .ensures .1,
   c .before .before .before .channel-of .ensures .1,
 )
@@ -42,7 +42,7 @@ returns c = let b4 = c .before .before .before .before in
       b4 .control-of .ensures,
       c .before .before .devices-of .ensures,
       c .taken .ensures,
-    ) (key-made (b8 .autoload .result) _ _ _ _ _ _ _ _ (b16 .before .before .pre .0) (rw (b12 .before .row-of .ensures .0, b12 .before .before .autoload-record .ensures, b12 .channel-of .ensures .0) at (b8 .autoload .ensures .0)))
+    ) (key-made (b8 .autoload .result) _ _ _ _ _ _ _ _ (b16 .before .before .before .before .pre .0) (rw (b12 .before .row-of .ensures .0, b12 .before .before .autoload-record .ensures, b12 .channel-of .ensures .0) at (b8 .autoload .ensures .0)))
 
 pub autoload-spec : {M : Type 1} → statement M
 autoload-spec =

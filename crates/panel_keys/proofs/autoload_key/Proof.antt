@@ -8,7 +8,7 @@ use Rattle.panel_keys.proofs.autoload_key.Tie as tie
 autoload-requires : tie.Need-autoload-requires
 unfolding fourLeft
 autoload-requires c κs = let b4 = c .before .before .before .before in
-    let pre = b4 .before .before .pre in (pre .0, pre .1, pre .2, le-leb _ _ (c .before .if2 .taken))
+    let pre = b4 .before .before .before .pre in (pre .0, pre .1, pre .2, le-leb _ _ (c .before .if2 .taken))
 
 same-length : tie.Need-same-length
 same-length c = search needs

@@ -1,3 +1,4 @@
+-- Made by tools/prove.py; not to be edited.
 use Rattle.definition_runs.specs.Keys.{pressingReset}
 use borrow.Author.Needs.{needs}
 use Rattle.panel_keys.proofs.press_reset.Statement.{statement}
@@ -20,8 +21,10 @@ same-length c = search needs
 
 returns : tie.Need-returns
 unfolding pressingReset
-returns c = let b4 = c .before .before .before .before in
-    rw (← (b4 .before .before .judge-machine .ensures), b4 .enum-told .given .1, ← (c .before .before .reset-key .ensures))
+returns c =
+    let b4 = c .before .before .before .before in
+    let b8 = b4 .before .before .before .before in
+    rw (← (b8 .judge-machine .ensures), b4 .before .before .enum-told .given .1, ← (c .before .before .reset-key .ensures))
 
 same-length-2 : tie.Need-same-length-2
 same-length-2 c = search needs

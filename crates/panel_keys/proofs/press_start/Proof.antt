@@ -23,7 +23,8 @@ returns : tie.Need-returns
 unfolding pressingStart
 returns c =
     let b4 = c .before .before .before .before in
-    rw (← (b4 .before .before .judge-machine .ensures), b4 .enum-told .given .1, ← (c .before .before .start-key .ensures))
+    let b8 = b4 .before .before .before .before in
+    rw (← (b8 .judge-machine .ensures), b4 .before .before .enum-told .given .1, ← (c .before .before .start-key .ensures))
 
 same-length-2 : tie.Need-same-length-2
 same-length-2 c = search needs

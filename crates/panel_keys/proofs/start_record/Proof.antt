@@ -1,5 +1,5 @@
 -- Made by tools/prove.py; not to be edited.
-use Rattle.definition_runs.specs.Keys.{startRecord}
+use Rattle.definition_runs.specs.Keys.{startControl}
 use borrow.Author.Needs.{needs}
 use Rattle.panel_keys.proofs.start_record.Statement.{statement}
 use Rattle.panel_keys.proofs.start_record.Tie as tie
@@ -8,7 +8,7 @@ mul-t4 : tie.Need-mul-t4
 mul-t4 c = search needs
 
 returns : tie.Need-returns
-unfolding startRecord
+unfolding startControl
 returns c = search needs
 
 pub start-record-spec : {M : Type 1} → statement M

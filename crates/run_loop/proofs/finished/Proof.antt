@@ -18,16 +18,12 @@ taken-requires c κs = search needs
 typed-requires : tie.Need-typed-requires
 typed-requires c κs = search needs
 
+timer-of-requires : tie.Need-timer-of-requires
+timer-of-requires c κs = search needs
+
 returns : tie.Need-returns
 unfolding runOf
-returns c = let b4 = c .before .before .before .before in
-    rw (
-      ← (b4 .control-of .ensures),
-      ← (c .before .before .before .control-after .ensures),
-      ← (c .before .before .devices-of .ensures),
-      ← (c .before .taken .ensures),
-      ← (c .typed .ensures),
-    )
+returns c = rw (← (c .before .before .before .before .before .control-of .ensures), ← (c .before .before .before .before .control-after .ensures), ← (c .before .before .before .devices-of .ensures), ← (c .before .before .taken .ensures), ← (c .before .typed .ensures), ← (c .timer-of .ensures))
 
 pub finished-spec : {M : Type 1} → statement M
 finished-spec =
@@ -38,4 +34,5 @@ finished-spec =
     devices-of-requires
     taken-requires
     typed-requires
+    timer-of-requires
     returns)

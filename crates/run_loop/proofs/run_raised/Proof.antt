@@ -1,6 +1,6 @@
 use Rattle.definition_instructions.specs.Machine.{computer}
 use Rattle.definition_instructions.proofs.Validity.{accepted-valid}
-use Rattle.run_loop.proofs.Loop.{handed-in-reset, handed-run}
+use Rattle.run_loop.proofs.Loop.{accepted-record, handed-in-reset, handed-run}
 use borrow.Author.Needs.{needs}
 use Rattle.run_loop.proofs.run_raised.Statement.{statement}
 use Rattle.run_loop.proofs.run_raised.Tie as tie
@@ -15,25 +15,16 @@ returns : tie.Need-returns
 returns c = rw (c .in-reset .ensures, c .before .before .raise .ensures) (handed-in-reset _ _ _ _ _ _ (rw (c .before .before .raise .ensures) at (c .before .if1 .taken)))
 
 row-of-requires : tie.Need-row-of-requires
-row-of-requires c κs = (
-  let b4 = c .before .before .before .before in
-      rw (c .before .raise .ensures) (accepted-valid (computer _ _) (b4 .before .pre .0) .widths .high),
-  c .if1 .left,
-)
+row-of-requires c κs = (rw (c .before .raise .ensures) (accepted-valid (computer _ _) (accepted-record _ _ (c .before .before .before .before .before .before .before .pre .0) .0) .widths .high), c .if1 .left)
+
+clock-of-requires : tie.Need-clock-of-requires
+clock-of-requires c κs = accepted-record _ _ (c .before .before .before .before .before .before .before .before .pre .0) .1
 
 channel-of-requires : tie.Need-channel-of-requires
 channel-of-requires c κs = search needs
 
 cycles-requires : tie.Need-cycles-requires
-cycles-requires c κs = (
-  let b4 = c .before .before .before .before in
-      let b8 = b4 .before .before .before .before in
-      let b12 = b8 .before .before .before .before in
-      rw (b4 .before .before .row-of .ensures .0, b8 .raise .ensures) (b12 .pre .0),
-  c .before .before .before .before .before .before .before .before .before .before .before .before .pre .1,
-  c .before .before .before .before .before .before .row-of .ensures .1,
-  c .before .before .before .before .channel-of .ensures .1,
-)
+cycles-requires c κs = (rw (c .before .before .before .before .before .before .before .before .row-of .ensures .0, c .before .before .before .before .before .before .before .before .before .before .raise .ensures) (accepted-record _ _ (c .before .before .before .before .before .before .before .before .before .before .before .before .before .before .before .before .pre .0) .0), c .before .before .before .before .before .before .before .before .before .before .before .before .before .before .before .before .pre .1, c .before .before .before .before .before .before .before .before .row-of .ensures .1, c .before .before .before .before .before .before .before .clock-of .ensures .1 .0, c .before .before .before .before .before .before .before .clock-of .ensures .1 .1, c .before .before .before .before .before .channel-of .ensures .1)
 
 finished-requires : tie.Need-finished-requires
 finished-requires c κs = search needs
@@ -45,15 +36,7 @@ same-length-2 : tie.Need-same-length-2
 same-length-2 c = search needs
 
 returns-2 : tie.Need-returns-2
-returns-2 c = let b4 = c .before .before .before .before in
-    let b8 = b4 .before .before .before .before in
-    let b12 = b8 .before .before .before .before in
-    let b16 = b12 .before .before .before .before in
-    rw (c .finished .ensures) (handed-run _ _ _ _ _ _ (rw (
-      b12 .before .before .before .row-of .ensures .0,
-      b12 .before .channel-of .ensures .0,
-      b16 .before .raise .ensures,
-    ) at (b8 .cycles .ensures .0)))
+returns-2 c = rw (c .finished .ensures) (handed-run _ _ _ _ _ _ (rw (c .before .before .before .before .before .before .before .before .before .before .before .before .before .before .before .before .before .before .row-of .ensures .0, c .before .before .before .before .before .before .before .before .before .before .before .before .before .before .before .before .before .clock-of .ensures .0, c .before .before .before .before .before .before .before .before .before .before .before .before .before .before .before .channel-of .ensures .0, c .before .before .before .before .before .before .before .before .before .before .before .before .before .before .before .before .before .before .before .before .raise .ensures) at (c .before .before .before .before .before .before .before .before .before .cycles .ensures .0)))
 
 pub run-raised-spec : {M : Type 1} → statement M
 run-raised-spec =
@@ -63,6 +46,7 @@ run-raised-spec =
     in-reset-requires
     returns
     row-of-requires
+    clock-of-requires
     channel-of-requires
     cycles-requires
     finished-requires

@@ -1,5 +1,5 @@
 use native.Mathlib.Omega.{arith}
-use Rattle.definition_tape.proofs.Judged.{block-length, control-length}
+use Rattle.definition_tape.proofs.Judged.{block-length, control-least}
 use Rattle.definition_tape.specs.Judge.{judgePayload}
 use borrow.Author.Tests.{eq-eqb, ne-eqb}
 use Rattle.tape_judge.proofs.judge_payload.Statement.{statement}
@@ -13,7 +13,7 @@ unfolding judgePayload
 returns c = rw (eq-eqb _ _ (c .before .if1 .taken), ← (c .judge-block .ensures))
 
 judge-control-requires : tie.Need-judge-control-requires
-judge-control-requires c κs = omega (arith, control-length _ (rw (c .if2 .taken) at (c .before .before .before .pre)))
+judge-control-requires c κs = omega (arith, control-least _ (rw (c .if2 .taken) at (c .before .before .before .pre)))
 
 returns-2 : tie.Need-returns-2
 unfolding judgePayload

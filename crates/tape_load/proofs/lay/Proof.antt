@@ -18,8 +18,8 @@ part-payload-end c = search needs
 payload-requires : tie.Need-payload-requires
 payload-requires c κs = control-whole _ _ (c .before .before .before .load-blocks .ensures .0)
 
-control-of-requires : tie.Need-control-of-requires
-control-of-requires c κs = control-size _ _ (c .before .before .before .before .load-blocks .ensures .0) _ (c .payload .ensures)
+record-of-requires : tie.Need-record-of-requires
+record-of-requires c κs = control-size _ _ (c .before .before .before .before .load-blocks .ensures .0) _ (c .payload .ensures)
 
 same-length : tie.Need-same-length
 same-length c = search needs
@@ -27,7 +27,7 @@ same-length c = search needs
 returns : tie.Need-returns
 returns c =
     let b = c .before .before .before .before .before .load-blocks .ensures in
-    (rw (c .control-of .ensures, control-read _ _ (b .0) _ (c .before .payload .ensures)), b .1)
+    (rw (c .record-of .ensures, control-read _ _ (b .0) _ (c .before .payload .ensures)), b .1)
 
 pub lay-spec : {M : Type 1} → statement M
 lay-spec =
@@ -38,6 +38,6 @@ lay-spec =
     part-payload-start
     part-payload-end
     payload-requires
-    control-of-requires
+    record-of-requires
     same-length
     returns)

@@ -1,44 +1,49 @@
-use Prim.Native.Nat.{ℕ, _≤_, _<_}
+use Prim.Native.Nat.{_≤_}
 use native.Mathlib.Omega.{arith}
-use lib.ListN.{length, take}
+use lib.ListN.{length}
 use Rattle.definition_tape.specs.Layout.{recordsOf}
-use Rattle.definition_tape.specs.Judge.{timesNamed}
-use Rattle.tape_overlap.specs.Again.{Stop}
-use Rattle.tape_overlap.specs.Again.Stop.{after}
 use Rattle.tape_overlap.proofs.Names.{records-count}
-use Rattle.tape_overlap.proofs.Passes.{part-once, part-stop}
+use Rattle.tape_overlap.proofs.Passes.{Found, found-front, found-part, found-all}
 use borrow.Author.Needs.{needs}
 use Rattle.tape_overlap.proofs.search.Statement.{statement}
 use Rattle.tape_overlap.proofs.search.Tie as tie
 
 abbrev Inv-loop : tie.InvT-loop
-Inv-loop tape cells n₀ left₀ n left = (n ≤ length tape) × ((i : ℕ) → left ≤ i → i < cells → timesNamed (take n (recordsOf tape)) i ≤ 1) × Stop (recordsOf tape) n
+Inv-loop tape cells n₀ left₀ n left = (n ≤ length tape) × Found cells left (recordsOf tape) n
 
 abbrev μ-loop : tie.MeasureT-loop
 μ-loop tape cells n₀ left₀ n left = left
 
-loop-holds : tie.Need-loop-holds Inv-loop μ-loop
-loop-holds c = (omega arith, λ i l h. let no : ⊥ = omega arith in absurd no, after (records-count _))
-
-part-start-requires : tie.Need-part-start-requires Inv-loop μ-loop
-part-start-requires c κs = search needs
-
 search-part-requires : tie.Need-search-part-requires Inv-loop μ-loop
 search-part-requires c κs = search needs
+
+smaller-requires : tie.Need-smaller-requires Inv-loop μ-loop
+smaller-requires c κs = search needs
+
+loop-holds : tie.Need-loop-holds Inv-loop μ-loop
+loop-holds c =
+    let s = c .before .search-part .ensures in
+    (s .bound, found-front _ _ _ _ _ (records-count _) (c .smaller .ensures) s)
+
+sub-left : tie.Need-sub-left Inv-loop μ-loop
+sub-left c = search needs
+
+search-part-requires-2 : tie.Need-search-part-requires-2 Inv-loop μ-loop
+search-part-requires-2 c κs = search needs
 
 loop-less : tie.Need-loop-less Inv-loop μ-loop
 loop-less c = search needs
 
 loop-again : tie.Need-loop-again Inv-loop μ-loop
 loop-again c =
-    let l = c .before .before .before .loop in
-    let s = c .search-part .ensures in
-    (omega (arith, s .bound), part-once _ _ _ _ _ _ (c .before .part-start .ensures) s (l .inv .1), part-stop _ _ _ (s .stop) (l .inv .2))
+    let l = c .before .before .loop in
+    let s = c .search-part2 .ensures in
+    (omega (arith, s .bound), found-part _ _ _ _ _ _ (omega arith) s (l .inv .1))
 
 returns : tie.Need-returns Inv-loop μ-loop
 returns c =
     let l = c .before .loop in
-    (l .inv .0, record { once = λ i h. l .inv .1 i (omega arith) h; stop = l .inv .2 })
+    (l .inv .0, found-all _ _ _ _ (omega arith) (l .inv .1))
 
 pub search-spec : {M : Type 1} → statement M
 search-spec =
@@ -46,9 +51,11 @@ search-spec =
     (tie.spec
     Inv-loop
     μ-loop
-    loop-holds
-    part-start-requires
     search-part-requires
+    smaller-requires
+    loop-holds
+    sub-left
+    search-part-requires-2
     loop-less
     loop-again
     returns)

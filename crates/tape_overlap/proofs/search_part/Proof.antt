@@ -10,7 +10,7 @@ slice-aggregate-mark-records : tie.Need-slice-aggregate-mark-records
 slice-aggregate-mark-records c = search needs
 
 mark-records-requires : tie.Need-mark-records-requires
-mark-records-requires c κs = (length-replicate {A = ℕ} 32768 0, marks-none _ 32768 (omega arith))
+mark-records-requires c κs = (length-replicate {A = ℕ} 8192 0, marks-none _ 8192 (omega arith))
 
 returns : tie.Need-returns
 returns c = search needs

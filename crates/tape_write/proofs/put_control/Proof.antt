@@ -37,6 +37,12 @@ add-put-state c = search needs
 put-state-requires : tie.Need-put-state-requires
 put-state-requires c κs = search needs
 
+add-put-timer : tie.Need-add-put-timer
+add-put-timer c = search needs
+
+put-timer-requires : tie.Need-put-timer-requires
+put-timer-requires c κs = search needs
+
 same-length : tie.Need-same-length
 same-length c = search needs
 
@@ -47,9 +53,10 @@ returns c =
     let b12 = b8 .before .before .before .before in
     let b16 = b12 .before .before .before .before in
     let b20 = b16 .before .before .before .before in
-    control-put _ _ _ _ _ _ _ _ _ (omega arith) (b20 .before .before .put-header .ensures) (b16 .before .before .put-number .ensures)
-    (b12 .before .before .put-number2 .ensures) (b8 .before .before .put-number3 .ensures) (b4 .before .before .put-number4 .ensures)
-    (c .before .before .put-state .ensures)
+    let b24 = b20 .before .before .before .before in
+    control-put _ _ _ _ _ _ _ _ _ _ (omega arith) (b24 .before .before .put-header .ensures) (b20 .before .before .put-number .ensures)
+    (b16 .before .before .put-number2 .ensures) (b12 .before .before .put-number3 .ensures) (b8 .before .before .put-number4 .ensures)
+    (b4 .before .before .put-state .ensures) (c .before .before .put-timer .ensures)
 
 pub put-control-spec : {M : Type 1} → statement M
 put-control-spec =
@@ -66,5 +73,7 @@ put-control-spec =
     put-number-requires-4
     add-put-state
     put-state-requires
+    add-put-timer
+    put-timer-requires
     same-length
     returns)

@@ -28,7 +28,7 @@ add-result-2 c =
 returns : tie.Need-returns
 returns c =
     let b4 = c .before .before .before .before in
-    let e = length-tape (now (b4 .args .store)) (b4 .args .c) (remarkOf (b4 .args .given) (now (b4 .args .text))) in
+    let e = length-tape (now (b4 .args .store)) (b4 .args .r) (remarkOf (b4 .args .given) (now (b4 .args .text))) in
     omega (arith, c .blocks-length .ensures .0, c .before .remark-size .ensures)
 
 pub tape-length-spec : {M : Type 1} → statement M

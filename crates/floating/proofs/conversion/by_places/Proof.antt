@@ -1,6 +1,5 @@
--- Made by tools/prove.py; not to be edited.
 use Rattle.registers.proofs.Tests.{tests}
-use Rattle.floating.specs.Convert.{cfByPlaces}
+use Rattle.floating.specs.Convert.{cfByPlaces, cfShifts}
 use borrow.Author.Tests.{eq-eqb, lt-ltb, ne-eqb, le-ltb, lt-leb}
 use borrow.Author.Needs.{needs}
 use Rattle.floating.proofs.conversion.by_places.Statement.{statement}
@@ -10,18 +9,18 @@ rounded-requires : tie.Need-rounded-requires
 rounded-requires c κs = search needs
 
 returns : tie.Need-returns
-unfolding cfByPlaces
+unfolding cfByPlaces cfShifts
 returns c = rw (lt-ltb _ _ (c .before .before .if1 .taken), eq-eqb _ _ (c .before .if2 .taken), ← (c .rounded .ensures))
 
 returns-2 : tie.Need-returns-2
-unfolding cfByPlaces
+unfolding cfByPlaces cfShifts
 returns-2 c = rw (lt-ltb _ _ (c .before .if1 .taken), ne-eqb _ _ (c .if2 .left))
 
 rounded-requires-2 : tie.Need-rounded-requires-2
 rounded-requires-2 c κs = search needs
 
 returns-3 : tie.Need-returns-3
-unfolding cfByPlaces
+unfolding cfByPlaces cfShifts
 returns-3 c = search tests
 
 shift-af-requires : tie.Need-shift-af-requires
@@ -31,7 +30,7 @@ rounded-requires-3 : tie.Need-rounded-requires-3
 rounded-requires-3 c κs = search needs
 
 returns-4 : tie.Need-returns-4
-unfolding cfByPlaces
+unfolding cfByPlaces cfShifts
 returns-4 c =
     rw (
       le-ltb _ _ (c .before .before .before .if1 .left),

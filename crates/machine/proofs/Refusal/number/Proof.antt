@@ -1,4 +1,4 @@
--- Seventeen arms are more than the prover's own search closes.
+-- Eighteen arms are more than the prover's own search closes.
 use borrow.Author.Needs.{needs}
 use Rattle.machine.proofs.Refusal.number.Statement.{statement}
 use Rattle.machine.proofs.Refusal.number.Tie as tie
@@ -7,6 +7,7 @@ pub number-spec : {M : Type 1} → statement M
 number-spec =
     tie.close
     (tie.spec
+    (λ c. search needs)
     (λ c. search needs)
     (λ c. search needs)
     (λ c. search needs)
@@ -40,4 +41,5 @@ number-spec =
     (λ c. rw (c .enum-told14 .given .1))
     (λ c. rw (c .enum-told15 .given .1))
     (λ c. rw (c .enum-told16 .given .1))
-    (λ c. rw (c .enum-told17 .given .1)))
+    (λ c. rw (c .enum-told17 .given .1))
+    (λ c. rw (c .enum-told18 .given .1)))

@@ -1,0 +1,1 @@
+// The definition of execution times and of the timer. No code: see specs/.
