@@ -42,7 +42,7 @@ untimed m = machine (m .cells) (m .control .registers) (m .channel)
 abbrev pub timed : Timer → Machine → TimedMachine
 timed r m = timedMachine (m .cells) (record { registers = m .control; timer = r }) (m .channel)
 
--- the time of the instruction at IC, by its own fields and the machine as its operation begins
+-- the time of the instruction at IC, by its own fields and the machine as the cycle begins, whose cells and channel are those that its operation begins with
 unfoldable pub instructionTime : Machine → ℕ
 instructionTime m =
     let i = instructionFields (fetched (m .cells) (m .control .ic)) in

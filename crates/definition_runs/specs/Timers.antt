@@ -25,6 +25,10 @@ order f w m x d = f * 262144 + w * 65536 + m * 16384 + x * 4096 + d
 abbrev registers : ℕ → ℕ → Bool → Bool → Control
 registers ic ir e r = record { ic = ic; ir = ir; im = 16385; pending = 0; pr = 255; ex = 0; monitor = true; enabled = e; reset = r }
 
+-- task mode, interrupts enabled, only cells with key 0 forbidden
+abbrev task : ℕ → Control
+task ic = record { ic = ic; ir = 0; im = 16385; pending = 0; pr = 128; ex = 0; monitor = false; enabled = true; reset = false }
+
 -- with elapsed time, period, phase and line
 abbrev with : ℕ → ℕ → ℕ → ℕ → Control → Record
 with e p q l c = record { registers = c; timer = record { elapsed = e; period = p; phase = q; line = l } }
@@ -68,6 +72,13 @@ timer-off :
     ≡ ended Spent (alone (eight 5 7 7 al) (with 20 0 77 200 (registers 16 0 true false))) 1 0
 unfolding opened
 timer-off = refl
+
+-- in task mode too, the instruction's key being 1
+in-task-mode :
+    runMachine 0 1 (alone (eight 0 7 7 (16777216 + al)) (with 5 100 20 9 (task 14)))
+    ≡ ended Spent (alone (eight 5 7 7 (16777216 + al)) (with 20 100 35 9 (task 16))) 1 0
+unfolding opened
+in-task-mode = refl
 
 -- an exception takes 7.5 in all: the code 60, relative and indexed, adds nothing; nor does RL of an absent address, or NS to one, W1 already shifted
 exception :

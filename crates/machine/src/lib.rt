@@ -40,7 +40,7 @@ impl Control {
 
     pub const START_ADDRESS: u32 = 14;
 
-    // The record after power on (14.4): everything zero but bit 0 of PR, in the reset state.
+    // The control registers after power on (14.4): everything zero but bit 0 of PR, in the reset state.
     pub fn fresh() -> Control
         ensures { λ r. ⌜ r ≡ freshControl ⌝ }
     {
@@ -57,7 +57,7 @@ impl Control {
         }
     }
 
-    // The record in the reset state: nothing pending, monitor mode, interrupts disabled.
+    // The control registers in the reset state: nothing pending, monitor mode, interrupts disabled.
     pub fn in_reset(self) -> Control
         ensures { λ r. ⌜ r ≡ resetControl self ⌝ }
     {

@@ -33,7 +33,7 @@ normalized n w =
 unfoldable pub normalizingShifts : ℕ → ℕ → ℕ
 normalizingShifts n w = cond (eqb w 0) 0 (normalize n w .shifts)
 
--- the same, by SC(12:23), which is less by one for each shift and -2048 for a zero
+-- the same told by SC(12:23), which is less by one for each shift and -2048 for a zero: for the code; no public contract rests on it
 unfoldable pub shiftsBy : ℕ → ℕ
 shiftsBy b = cond (eqb b 2048) 0 ((2 ^ 12 - b) % 2 ^ 12)
 

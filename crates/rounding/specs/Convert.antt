@@ -17,16 +17,20 @@ scaled sb sc = (sc + sb % 2 ^ 13) % 2 ^ 13
 abbrev pub ciEnd : ℕ → Unpacked → Pair
 ciEnd sb x = storedFloating (x .af) (scaled sb (x .sc)) (max (scOver (x .sc)) (scOver (scaled sb (x .sc))))
 
--- AF(-1:23) := signed W; AF(24:37) := 0; if AF = 0 then Wfrac := 0, Wexp := -2048; SC := 23; Normalize and Round Floating; ..
+-- AF(-1:23) := signed W; AF(24:37) := 0
+abbrev pub integerFraction : ℕ → ℕ
+integerFraction w = signed 24 25 w * 2 ^ 14
+
+-- if AF = 0 then Wfrac := 0, Wexp := -2048; SC := 23; Normalize and Round Floating; ..
 unfoldable pub ci : ℕ → ℕ → Pair
 ci w sb =
     cond (eqb w 0)
     (record { pre = 0; word = 2048; over = 0 })
-    (ciEnd sb (normalizeRound (record { af = signed 24 25 w * 2 ^ 14; sc = 23 })))
+    (ciEnd sb (normalizeRound (record { af = integerFraction w; sc = 23 })))
 
 -- the single shifts that CI makes to normalize: none for a zero
 unfoldable pub integerShifts : ℕ → ℕ
-integerShifts w = cond (eqb w 0) 0 (afLeft (signed 24 25 w * 2 ^ 14) .shifts)
+integerShifts w = cond (eqb w 0) 0 (afLeft (integerFraction w) .shifts)
 
 -- document 01, table: CI of 0, whatever the address
 ci-0 : (sb : ℕ) → ci 0 sb ≡ record { pre = 0; word = 2048; over = 0 }

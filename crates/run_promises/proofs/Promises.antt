@@ -7,7 +7,7 @@ use mathlib.Core.Path.{_≡_, refl, sym, ap, _∙_}
 use mathlib.Core.Logic.{_≢_}
 use mathlib.Core.Bool.{Bool, true, false, cond, true≢false}
 use mathlib.Core.List.{List, [], _∷_}
-use lib.Bits.{bitOr, or-zero-r, or-lt, or-shr, or-mod}
+use lib.Bits.{bitOr, or-zero-r, or-shr, or-mod}
 use lib.Pow.{pow-lt, pow-pos}
 use lib.Dec.{eqb, ltb, leb}
 use lib.ListN.{length, drop, length-append}
@@ -53,7 +53,7 @@ use Rattle.run_promises.proofs.TimedLaws.{timed-meets, tick-keeps, time
 use Rattle.run_promises.proofs.CycleIsolates.{Entry, Confined, ConfinedEntry, cycle-confines, Task, cycle-outside}
 use Rattle.cycle_promises.proofs.Claims.{lines-taken}
 use Rattle.cycle_promises.proofs.Entries.{Stored, cycle-stores}
-use Rattle.definition_runs.proofs.CycleValid.{cycle-valid, valid-joined, cycle-channel, valid-resetKey, valid-startKey, valid-autoloadKey, channel-autoloadKey}
+use Rattle.definition_runs.proofs.CycleValid.{valid-joined, cycle-channel, valid-resetKey, valid-startKey, valid-autoloadKey, channel-autoloadKey}
 
 -- ---- (e) an accepted machine stays accepted
 
@@ -512,27 +512,26 @@ bit-or (suc zero) l = refl
 bit-or (suc (suc y)) l = absurd (omega (arith, l))
 
 -- a bit that joined IR stands there
-joined-bit : (x k : ℕ) → x < 2 ^ 24 → k < 24 → bitOr x (2 ^ k) % 16777216 / 2 ^ k % 2 ≡ 1
-joined-bit x k l h =
-    let below : bitOr x (2 ^ k) < 2 ^ 24 = or-lt 24 x (2 ^ k) l (pow-lt {i = k} {j = 24} h) in
-    let whole : bitOr x (2 ^ k) % 16777216 ≡ bitOr x (2 ^ k) = mod-eq-of-lt below in
+joined-bit : (x k : ℕ) → k < 24 → bitOr x (2 ^ k) % 16777216 / 2 ^ k % 2 ≡ 1
+joined-bit x k h =
+    let y = x % 2 ^ 24 in
+    let own : 2 ^ k % 2 ^ 24 ≡ 2 ^ k = mod-eq-of-lt (pow-lt {i = k} {j = 24} h) in
+    let below : bitOr x (2 ^ k) % 16777216 ≡ bitOr y (2 ^ k) = or-mod x (2 ^ k) 24 ∙ ap (bitOr y) own in
     let one : 2 ^ k / 2 ^ k ≡ 1 = div-self (pow-pos k) in
-    let bit : bitOr (x / 2 ^ k) 1 % 2 ^ 1 ≡ bitOr (x / 2 ^ k % 2 ^ 1) (1 % 2 ^ 1) = or-mod (x / 2 ^ k) 1 1 in
-    rw (whole, or-shr x (2 ^ k) k, one) (bit ∙ bit-or (x / 2 ^ k % 2) (mod-lt (x / 2 ^ k) (omega arith)))
+    let bit : bitOr (y / 2 ^ k) 1 % 2 ^ 1 ≡ bitOr (y / 2 ^ k % 2 ^ 1) (1 % 2 ^ 1) = or-mod (y / 2 ^ k) 1 1 in
+    rw (below, or-shr y (2 ^ k) k, one) (bit ∙ bit-or (y / 2 ^ k % 2) (mod-lt (y / 2 ^ k) (omega arith)))
 
-raised-line : (t : ℕ) (r : Timer) (b : Machine) → intervalEnds t r ≡ true → b .control .ir < 16777216 → r .line < 24
+raised-line : (t : ℕ) (r : Timer) (b : Machine) → intervalEnds t r ≡ true → r .line < 24
     → bitFromLeft (cycleEnded t r b .control .registers .ir) (r .line) ≡ 1
 unfolding cycleEnded lineRaised raised withIR bitFromLeft
-raised-line t r b i l h = rw i (joined-bit (b .control .ir) (23 - r .line) l (omega arith))
+raised-line t r b i h = rw i (joined-bit (b .control .ir) (23 - r .line) (omega arith))
 
 pub timer-line-taken : TimerLineTaken
-timer-line-taken m e o i =
+timer-line-taken m e i =
     let r = m .control .timer in
     let b = machineOf (cycle (untimed m)) in
-    let v = accepted-timed m e in
-    let small : b .control .ir < 16777216 = result-of ValidComputer (cycle (untimed m)) (cycle-valid (untimed m) o (v .machine)) .widths .ir in
-    let line = ending-line (cycleTime (untimed m)) r (v .timer) i in
-    rw (timed-result m) (λ n p q. lines-taken _ (r .line) line n p (raised-line (cycleTime (untimed m)) r b i small line) q)
+    let line = ending-line (cycleTime (untimed m)) r e i in
+    rw (timed-result m) (λ n p q. lines-taken _ (r .line) line n p (raised-line (cycleTime (untimed m)) r b i line) q)
 
 pub entry-time : EntryTime
 unfolding cycleTime

@@ -93,8 +93,8 @@ pub record EqualEntries (m n : TimedComputer) : Type 0 where
   pub starts :
       (m .control .registers .ic ≡ word (m .cells) (interruptionProgram / 2) / 2 * 2) × (n .control .registers .ic ≡ word (n .cells) (interruptionProgram / 2) / 2 * 2)
 
--- (b) two such runs, each with its own lines, budget and devices, on equal protected parts with word 12 forbidden: if both end interrupted, they end in
--- EqualEntries
+-- (b) two such runs, each with its own lines, budget, devices and timer, on equal protected parts with word 12 forbidden: if both end interrupted, they end
+-- in EqualEntries, and with the same period and line number where they began with the same
 abbrev pub TwoRuns : Type 0
 TwoRuns =
     (m n : TimedMachine) (lines₁ budget₁ lines₂ budget₂ : ℕ) (k₁ k₂ : Kind)
@@ -292,7 +292,7 @@ PhaseBelowPeriod =
 -- cycle takes a line
 abbrev pub TimerLineTaken : Type 0
 TimerLineTaken =
-    (m : TimedMachine) → judgeOf m ≡ Accepted → inReset m ≡ false → intervalEnds (cycleTime (untimed m)) (m .control .timer) ≡ true
+    (m : TimedMachine) → timerFits (m .control .timer) ≡ true → intervalEnds (cycleTime (untimed m)) (m .control .timer) ≡ true
     → let n = machineOf (timedCycle m) in n .control .registers .enabled ≡ true → n .control .registers .pending ≡ 0
     → bitFromLeft (n .control .registers .im) (m .control .timer .line) ≡ 1 → takesLine (cycle (untimed n)) ≡ true
 

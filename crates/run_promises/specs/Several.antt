@@ -36,7 +36,7 @@ computerLent y = timedComputer (y .cells) (y .control)
 abbrev pub computerReturned : Returned → TimedComputer
 computerReturned x = timedComputer (x .cells) (x .run .control)
 
--- two calls begun in task mode with equal protected parts, word 12 forbidden, that both end interrupted
+-- two calls begun in task mode with equal protected parts, word 12 forbidden, that both end interrupted, end so too
 abbrev pub TwoCalls : Type 0
 TwoCalls =
     (y z : Lent) (x w : Returned) (lines₁ budget₁ lines₂ budget₂ : ℕ) (k₁ k₂ : Kind) → Called lines₁ budget₁ y x → Called lines₂ budget₂ z w
