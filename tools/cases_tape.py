@@ -3,7 +3,7 @@
 
 usage: tools/cases_tape.py CASES ANSWERS [FOLDER]
 
-The stored files come out with host/vectors/e6.cases and host/vectors/e6.answers; FOLDER is crates/cases_tape where it is not given.
+The stored files come out with host/vectors/e7.cases and host/vectors/e7.answers; FOLDER is crates/cases_tape where it is not given.
 
 The first part is made here: the paper's tape, tapes for every refusal, and for every pair of refusals that stand next to each other in
 the order of document 01 (17 after 9 and before 10, 18 at the end of 3, document 02), tapes that earn both at one record; every kind of overlap of

@@ -20,7 +20,7 @@ import functools, glob, os, re, sys
 from typing import NamedTuple
 
 FILES = "Promises", "Several", "Claims", "Grammar", "Contents", "Numbers", "Protected"
-LEAST = 101     # statements: a request adds to them
+LEAST = 109     # statements: a request adds to them
 PLACE = rf"crates/(\w+)/(specs/(?:{'|'.join(FILES)})\.antt)"
 # closed types that claim nothing
 ELSEWHERE = {"crates/definition_instructions/specs/MicroOps.antt: Value"}

@@ -46,9 +46,9 @@ static void cells(void) {
 
 /* Every refusal has a text of its own. */
 static void texts(void) {
-    const char *none = rc4000_refusal_text(RC4000_TIMER + 1);
+    const char *none = rc4000_refusal_text(RC4000_LINE_VALUE + 1);
     expect(strcmp(rc4000_refusal_text(4294967295), none) == 0, "text of no refusal");
-    for (uint32_t number = 0; number <= RC4000_TIMER; number++) {
+    for (uint32_t number = 0; number <= RC4000_LINE_VALUE; number++) {
         const char *text = rc4000_refusal_text(number);
         expect(strcmp(text, none) != 0, "text of a refusal");
         for (uint32_t other = 0; other < number; other++)

@@ -55,3 +55,7 @@ AT(rc4000_text, end, 16);
 SIZE(rc4000_written, 16);
 AT(rc4000_written, refusal, 0);
 AT(rc4000_written, length, 8);
+
+SIZE(rc4000_assembled, 8);
+AT(rc4000_assembled, refusal, 0);
+AT(rc4000_assembled, word, 4);

@@ -21,12 +21,14 @@
  * has the time run so far and an interval timer, which raises a line at the end
  * of each interval (rc4000_set_interval).
  *
- * A call that is refused gives the refusal's number, 1 to 18, and leaves the
+ * A program's words can be written as lines of text (rc4000_assemble).
+ *
+ * A call that is refused gives the refusal's number, 1 to 21, and leaves the
  * store and the buffers as they were; where the result has a control record or
  * device buffer registers, they come back as given; every count is zero.
  *
  * What the caller has to see to, since C does not check it: store points to
- * `cells` cells, tape to `length` bytes, text to `text_length` bytes,
+ * `cells` cells, tape or line to `length` bytes, text to `text_length` bytes,
  * characters to `count` bytes, and typing, or the tape that is written, to
  * `space` bytes (NULL will do where that number is 0); no two of them overlap,
  * and nothing else changes them during the call. Nothing else is asked.
@@ -125,7 +127,8 @@ enum {
 /* The refusals. The store is tested first (1, 2); then control record, lines,
  * budget and devices (3, 18, 4, 5, 13), or the tape: its length (12), then record
  * by record, of a block 9, 17, 10, of the control record 3, 18; or, to write one,
- * control record, remark, tape and buffer (3, 18, 14, 15, 16). */
+ * control record, remark, tape and buffer (3, 18, 14, 15, 16). A line of the
+ * assembler has its own (19, 20, 21). */
 enum {
     RC4000_STORE_SIZE = 1,      /* fewer than 8 or more than 8388608 cells */
     RC4000_CELL_VALUE = 2,      /* a cell of 134217728 or more */
@@ -144,8 +147,12 @@ enum {
     RC4000_WRITTEN_LENGTH = 15, /* a machine whose tape would pass 65536 bytes */
     RC4000_BUFFER_LENGTH = 16,  /* a buffer shorter than the tape */
     RC4000_BLOCK_OVERLAP = 17,  /* a block names a cell that an earlier block of the tape names */
-    RC4000_TIMER = 18           /* a timer line outside 3 to 23 or a phase not below the period, where
+    RC4000_TIMER = 18,          /* a timer line outside 3 to 23 or a phase not below the period, where
                                    the period is not 0 */
+    RC4000_LINE_GRAMMAR = 19,   /* a line over 255 characters or outside the grammar, whatever its depth */
+    RC4000_LINE_DEPTH = 20,     /* a line with round parentheses to a depth over 16 */
+    RC4000_LINE_VALUE = 21      /* a value of an address outside -8388608 to 8388607, or the last one
+                                   outside -2048 to 2047 */
 };
 
 /* What a refusal means. The texts stand in the order of the numbers, from 0 on. */
@@ -170,6 +177,9 @@ static inline const char *rc4000_refusal_text(uint32_t number) {
         "a buffer shorter than the tape",
         "a block names a cell that an earlier block of the tape names",
         "a timer line outside 3 to 23 or a phase not below the period, where the period is not 0",
+        "a line over 255 characters or outside the grammar",
+        "a line with parentheses to a depth over 16",
+        "a value of an address outside -8,388,608 to 8,388,607, or the last one outside -2048 to 2047",
     };
     const uint32_t count = sizeof texts / sizeof texts[0];
     return number < count ? texts[number] : "no refusal has this number";
@@ -208,6 +218,11 @@ typedef struct {
     uint32_t refusal; /* 0: done, else a refusal */
     size_t length;    /* bytes of the tape, at the front of the buffer; 0 if refused */
 } rc4000_written;
+
+typedef struct {
+    uint32_t refusal; /* 0: done, else a refusal */
+    uint32_t word;    /* 24 bits; 0 if refused */
+} rc4000_assembled;
 
 /* The most bytes of a tape: a buffer of so many has room for every tape. */
 enum { RC4000_LONGEST_TAPE = 65536 };
@@ -277,6 +292,14 @@ rc4000_text rc4000_remark(const uint8_t *tape, size_t length, size_t cells);
 rc4000_written rc4000_write(const uint32_t *store, size_t cells, rc4000_control control,
                             uint8_t given, const uint8_t *text, size_t text_length, uint8_t *tape,
                             size_t space);
+
+/* The word of a line of at most 255 characters, with no end of line or zero
+ * behind it, such as "AL. W1 [X2,2*(3+4)]": a mnemonic code, a dot if relative, a
+ * space, W0 to W3, a space, X1 to X3 and a comma if indexed, and the address,
+ * these two in square brackets if indirect. An address has decimal numbers, +, -
+ * and * between two operands, and round parentheses to a depth of 16; a negative
+ * one is written as 0-5. */
+rc4000_assembled rc4000_assemble(const uint8_t *line, size_t length);
 
 #ifdef __cplusplus
 }

@@ -1,5 +1,5 @@
-"""The operation codes of A.2 stand in four lists: the definition, the dispatch by code, tools/tape.py and the coverage of the comparison. All
-have the same mnemonic for each code."""
+"""The operation codes of A.2 stand in five lists: the definition, the dispatch by code, tools/tape.py, the coverage of the comparison and the
+assembler of the emulation. All have the same mnemonic for each code."""
 import pathlib
 import re
 import unittest
@@ -33,9 +33,9 @@ def in_tape_maker(text):
     return numbered(enumerate(re.search(r'^CODES = """(.*?)"""', text, re.M | re.S)[1].split()))
 
 
-def in_coverage(text):
-    """A code that is not used stands as its number."""
-    body = re.search(r"MNEMONICS: \[&str; 64\] = \[(.*?)\];", text, re.S)[1]
+def in_rust(text):
+    """A code that is not used stands as its number, or not at all."""
+    body = re.search(r"MNEMONIC\w+: \[&str; \d+\] = \[(.*?)\];", text, re.S)[1]
     names = re.findall(r'"(\w+)"', body)
     return numbered((code, name) for code, name in enumerate(names) if name != str(code))
 
@@ -44,7 +44,8 @@ LISTS = {
     "crates/definition_instructions/specs/Codes.antt": (in_definition, "code 3 HL", "code 3 HX"),
     "crates/dispatch/src/lib.rt": (in_dispatch, "::hl(", "::hx("),
     "tools/tape.py": (in_tape_maker, " HL ", " HX "),
-    "host/compare/src/coverage.rs": (in_coverage, '"HL"', '"HX"'),
+    "host/compare/src/coverage.rs": (in_rust, '"HL"', '"HX"'),
+    "host/emulation/src/assembler.rs": (in_rust, '"HL"', '"HX"'),
 }
 
 

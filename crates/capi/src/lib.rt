@@ -1,7 +1,8 @@
 // The C calls (host/include/rc4000.h): the public calls, with the records of `capi_records` in and out. The control record's flag bytes are tested first, save by a load and an overlay.
 ghost use mathlib.Core.Path.{_≡_};
 ghost use Rattle.definition_tape.specs.Remark.{remarkSpan};
-ghost use Rattle.capi_records.specs.Results.{returned, runReturned, runCall, resetCall, startCall, autoloadCall, loadCall, overlayCall, textOf, writeReturned, writeCall};
+ghost use Rattle.capi_records.specs.Results.{returned, runReturned, runCall, resetCall, startCall, autoloadCall, loadCall, overlayCall, textOf, writeReturned, writeCall, assembleCall};
+use capi_records::AssembleResult;
 use capi_records::AutoloadResult;
 use capi_records::CallResult;
 use capi_records::ControlRecord;
@@ -138,4 +139,12 @@ pub extern "C" fn rc4000_write(
         }
         Verdict::Rejected(q) => capi_records::refused_write(q),
     }
+}
+
+#[no_mangle]
+pub extern "C" fn rc4000_assemble(line: &[u8]) -> AssembleResult
+    ensures { λ r. ⌜ r ≡ assembleCall (now (line .entry)) ⌝ }
+{
+    let x = rc4000::assemble(line);
+    capi_records::assemble_result(x)
 }

@@ -37,8 +37,8 @@ use Rattle.tape_promises.proofs.Numbers.{positive}
 use Rattle.writer_promises.specs.Claims.{tapeSize}
 use Rattle.writer_promises.proofs.Claims.{written-tape-length}
 use Rattle.capi_records.specs.declared.ControlRecord.{ControlRecord}
-use Rattle.capi_records.specs.Results.{flagsFit, registersIn, timerIn, recordIn, recordOf, judgeFlags, returned, runReturned, resultBy, stateBy, autoloadedBy, runBy, keyBy, autoloadBy, loadBy, writeResultBy, writeBy, runCall, resetCall, startCall, autoloadCall, loadCall, overlayCall, writeCall}
-use Rattle.capi_promises.specs.Claims.{numberOf, fitsLent, RunNumbers, AutoloadCallNumbers, WriteNumbers, WriteAccepted, HandsBack, LoadCalls, KeyCalls, AutoloadCalls, RunCalls, RunAsGiven, StateAsGiven, AutoloadAsGiven, WriteAsGiven, RefusedAsGiven}
+use Rattle.capi_records.specs.Results.{flagsFit, registersIn, timerIn, recordIn, recordOf, judgeFlags, returned, runReturned, resultBy, stateBy, autoloadedBy, runBy, keyBy, autoloadBy, loadBy, writeResultBy, writeBy, runCall, resetCall, startCall, autoloadCall, loadCall, overlayCall, writeCall, assembleResult, assembleCall}
+use Rattle.capi_promises.specs.Claims.{numberOf, fitsLent, RunNumbers, AutoloadCallNumbers, WriteNumbers, WriteAccepted, HandsBack, LoadCalls, KeyCalls, AutoloadCalls, RunCalls, RunAsGiven, StateAsGiven, AutoloadAsGiven, WriteAsGiven, RefusedAsGiven, AssembleCalls}
 
 -- ---- the numbers of a run
 
@@ -249,3 +249,8 @@ refused-as-given l b g tape s r d cs t m o = (
   load-by (judgeLoad tape s) tape s s r (recordIn r),
   write-by (judgeFlags s r) (judgeWriting s (recordIn r) (remarkOf (not (eqb g 0)) m) (length o)) (tapeOf s (recordIn r) (remarkOf (not (eqb g 0)) m)) o,
 )
+
+-- ---- assemble
+pub assemble-calls : AssembleCalls
+unfolding assembleCall
+assemble-calls t = (λ v e. ap assembleResult e, λ q e. ap assembleResult e)

@@ -13,7 +13,8 @@ use Rattle.machine.specs.declared.Outcome.{Outcome}
 use Rattle.machine.specs.declared.Answer.the-variants.{Ended}
 use Rattle.machine.specs.declared.Verdict.{Verdict}
 use Rattle.machine.specs.declared.Verdict.the-variants.{Accepted}
-use Rattle.machine.specs.Answers.{verdictNumber}
+use Rattle.machine.specs.declared.Refusal.{Refusal}
+use Rattle.machine.specs.Answers.{refusalNumber, verdictNumber}
 use Rattle.acceptance.specs.Accept.{sizeFits, cellsFit, controlFits, timerFits, devicesFit}
 use Rattle.definition_runs.specs.Timed.{TimedComputer}
 use Rattle.definition_runs.specs.Keys.{Pressed, pressingReset, pressingStart}
@@ -21,11 +22,13 @@ use Rattle.definition_runs.specs.Lent.{runLent, autoloadLent}
 use Rattle.definition_tape.specs.Load.{Loaded, loading, overlaying}
 use Rattle.definition_tape.specs.Writing.{remarkOf, remarkFits, writing}
 use Rattle.writer_promises.specs.Claims.{tapeSize}
+use Rattle.definition_assembler.specs.declared.Assembled.the-variants.{Refused, Word}
+use Rattle.definition_assembler.specs.Assembling.{assembled}
 use Rattle.capi_records.specs.declared.ControlRecord.{ControlRecord}
 use Rattle.capi_records.specs.declared.CallResult.{CallResult}
 use Rattle.capi_records.specs.declared.StateResult.{StateResult}
 use Rattle.capi_records.specs.declared.AutoloadResult.{AutoloadResult}
-use Rattle.capi_records.specs.Results.{flagsFit, registersIn, timerIn, recordIn, recordOf, outcomeCode, outcomeNumber, Returned, RunReturned, WriteReturned, runCall, resetCall, startCall, autoloadCall, loadCall, overlayCall, writeCall}
+use Rattle.capi_records.specs.Results.{flagsFit, registersIn, timerIn, recordIn, recordOf, outcomeCode, outcomeNumber, Returned, RunReturned, WriteReturned, runCall, resetCall, startCall, autoloadCall, loadCall, overlayCall, writeCall, assembleCall}
 
 -- the number of a run's refusal, 0 where the run is not refused
 abbrev pub numberOf : CallResult → ℕ
@@ -180,3 +183,10 @@ RefusedAsGiven =
     × StateAsGiven s r (loadCall tape s r)
     × StateAsGiven s r (overlayCall tape s r)
     × WriteAsGiven o (writeCall s r g m o)
+
+-- `assemble-calls`: refusal 0 and the word, or the refusal's number and the word 0
+abbrev pub AssembleCalls : Type 0
+AssembleCalls =
+    (t : List ℕ)
+    → ((v : ℕ) → assembled t ≡ Word v → assembleCall t ≡ record { refusal = 0; word = v })
+    × ((q : Refusal) → assembled t ≡ Refused q → assembleCall t ≡ record { refusal = refusalNumber q; word = 0 })

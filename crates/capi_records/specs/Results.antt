@@ -34,7 +34,11 @@ use Rattle.capi_records.specs.declared.CallResult.{CallResult}
 use Rattle.capi_records.specs.declared.StateResult.{StateResult}
 use Rattle.capi_records.specs.declared.AutoloadResult.{AutoloadResult}
 use Rattle.capi_records.specs.declared.TextResult.{TextResult}
+use Rattle.definition_assembler.specs.declared.Assembled.{Assembled}
+use Rattle.definition_assembler.specs.declared.Assembled.the-variants as Assembled
+use Rattle.definition_assembler.specs.Assembling.{assembled}
 use Rattle.capi_records.specs.declared.WriteResult.{WriteResult}
+use Rattle.capi_records.specs.declared.AssembleResult.{AssembleResult}
 
 -- ---- the control record: a flag crosses as a byte
 
@@ -224,3 +228,11 @@ writeBy Accepted o x = writeReturned (writeResultBy (x .answer .verdict) (x .ans
 -- the byte g is 0 where no remark is given
 unfoldable pub writeCall : List ℕ → ControlRecord → ℕ → List ℕ → List ℕ → WriteReturned
 writeCall s r g m o = writeBy (judgeFlags s r) o (writing s (recordIn r) (remarkOf (not (eqb g 0)) m) o)
+
+-- refusal 0: the word; else the word is 0
+abbrev pub assembleResult : Assembled → AssembleResult
+assembleResult (Assembled.Refused q) = record { refusal = refusalNumber q; word = 0 }
+assembleResult (Assembled.Word v) = record { refusal = 0; word = v }
+
+unfoldable pub assembleCall : List ℕ → AssembleResult
+assembleCall t = assembleResult (assembled t)

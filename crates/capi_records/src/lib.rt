@@ -1,6 +1,7 @@
 // The records of the C calls (host/include/rc4000.h). Enums do not cross: an outcome is two numbers, a verdict is one. A flag of the control record comes in as a byte, which is tested; `found` only goes out.
 ghost use mathlib.Core.Path.{_≡_};
-ghost use Rattle.capi_records.specs.Results.{flagByte, flagsFit, registersIn, timerIn, recordIn, recordOf, judgeFlags, outcomeCode, outcomeNumber, resultBy, refusedRun, stateBy, refusedState, autoloadedBy, refusedAutoload, refusedWrite, writeResultBy};
+ghost use Rattle.capi_records.specs.Results.{flagByte, flagsFit, registersIn, timerIn, recordIn, recordOf, judgeFlags, outcomeCode, outcomeNumber, resultBy, refusedRun, stateBy, refusedState, autoloadedBy, refusedAutoload, refusedWrite, writeResultBy, assembleResult};
+use definition_assembler::Assembled;
 use definition_tape::Written;
 use machine::Answer;
 use machine::Autoloaded;
@@ -71,6 +72,12 @@ pub struct TextResult {
 pub struct WriteResult {
     pub refusal: u32,
     pub length: usize,
+}
+
+#[repr(C)]
+pub struct AssembleResult {
+    pub refusal: u32,
+    pub word: u32,
 }
 
 fn flag_byte(f: bool) -> u8
@@ -318,6 +325,21 @@ pub fn write_result(x: Written) -> WriteResult
         Verdict::Accepted => WriteResult {
             refusal: 0,
             length: x.length,
+        },
+    }
+}
+
+pub fn assemble_result(x: Assembled) -> AssembleResult
+    ensures { λ r. ⌜ r ≡ assembleResult x ⌝ }
+{
+    match x {
+        Assembled::Refused(q) => AssembleResult {
+            refusal: q.number(),
+            word: 0,
+        },
+        Assembled::Word(w) => AssembleResult {
+            refusal: 0,
+            word: w,
         },
     }
 }

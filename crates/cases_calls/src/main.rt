@@ -1,4 +1,5 @@
 // Makes the calls of the cases in the file stdin, and writes a line for each. README.md describes both files; host/cases writes them.
+use definition_assembler::Assembled;
 use definition_tape::Written;
 use machine::Answer;
 use machine::Autoloaded;
@@ -304,7 +305,23 @@ fn write_case(store: &[u32], text: &[u8], tape: &mut [u8], call: Call) {
     print_written(w, call, store, tape);
 }
 
-// A remark's text stands in place of the characters, an output buffer in place of the typing buffer.
+// The refusal and the word, nothing else.
+fn assemble_case(line: &[u8]) {
+    let a = rc4000::assemble(line);
+    match a {
+        Assembled::Refused(q) => {
+            print(q.number());
+            io::write_all(1, b"0\n");
+        }
+        Assembled::Word(w) => {
+            io::write_all(1, b"0 ");
+            io::print_decimal(1, w as u64);
+            io::write_all(1, b"\n");
+        }
+    }
+}
+
+// A remark's text or a line stands in place of the characters, an output buffer in place of the typing buffer.
 fn make_call(store: &mut [u32], characters: &[u8], typing: &mut [u8], call: Call) {
     let kind = call.kind;
     match kind {
@@ -312,6 +329,7 @@ fn make_call(store: &mut [u32], characters: &[u8], typing: &mut [u8], call: Call
         1 => reset_case(store, typing, call),
         2 => start_case(store, typing, call),
         3 => autoload_case(store, characters, typing, call),
+        5 => assemble_case(characters),
         _ => write_case(store, characters, typing, call),
     }
 }

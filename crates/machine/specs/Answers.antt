@@ -6,7 +6,7 @@ use Rattle.machine.specs.declared.Kind.the-variants.{Exception, Line}
 use Rattle.machine.specs.declared.Verdict.{Verdict}
 use Rattle.machine.specs.declared.Verdict.the-variants.{Accepted, Rejected}
 use Rattle.machine.specs.declared.Refusal.{Refusal}
-use Rattle.machine.specs.declared.Refusal.the-variants.{StoreSize, CellValue, ControlField, Lines, Budget, TapeEnds, RecordKind, RecordLength, BlockPlace, BlockCell, RecordOrder, TapeLength, Device, RemarkLength, WrittenLength, BufferLength, BlockOverlap, TimerField}
+use Rattle.machine.specs.declared.Refusal.the-variants.{StoreSize, CellValue, ControlField, Lines, Budget, TapeEnds, RecordKind, RecordLength, BlockPlace, BlockCell, RecordOrder, TapeLength, Device, RemarkLength, WrittenLength, BufferLength, BlockOverlap, TimerField, LineGrammar, LineDepth, LineValue}
 
 -- document 01, "Who can be refused, for what"
 abbrev pub refusalNumber : Refusal → ℕ
@@ -46,6 +46,12 @@ refusalNumber BufferLength = 16
 refusalNumber BlockOverlap = 17
 -- document 02, E6: where the period is not 0, a line outside 3 to 23 or a phase not below the period
 refusalNumber TimerField = 18
+-- document 02, E7: a line over 255 characters or outside the grammar
+refusalNumber LineGrammar = 19
+-- a line with parentheses deeper than 16
+refusalNumber LineDepth = 20
+-- a value of a line out of range
+refusalNumber LineValue = 21
 
 -- 0: not refused
 abbrev pub verdictNumber : Verdict → ℕ

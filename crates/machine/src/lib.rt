@@ -204,6 +204,9 @@ pub enum Refusal {
     BufferLength,
     BlockOverlap,
     TimerField,
+    LineGrammar,
+    LineDepth,
+    LineValue,
 }
 
 impl Refusal {
@@ -229,6 +232,9 @@ impl Refusal {
             Refusal::BufferLength => 16,
             Refusal::BlockOverlap => 17,
             Refusal::TimerField => 18,
+            Refusal::LineGrammar => 19,
+            Refusal::LineDepth => 20,
+            Refusal::LineValue => 21,
         }
     }
 }

@@ -8,6 +8,8 @@ ghost use Rattle.run_promises.specs.Promises.{KeepsProtected, TouchesNoDevice, 
 ghost use Rattle.definition_tape.specs.Load.{loading, overlaying};
 ghost use Rattle.definition_tape.specs.Remark.{remarkSpan, remarkText, placeFrom};
 ghost use Rattle.definition_tape.specs.Writing.{remarkOf, writing};
+ghost use Rattle.definition_assembler.specs.Assembling.{assembled};
+use definition_assembler::Assembled;
 use definition_tape::Written;
 use machine::Answer;
 use machine::Autoloaded;
@@ -111,4 +113,11 @@ pub fn write(store: &[u32], control: Record, given: bool, text: &[u8], tape: &mu
     ensures bytes { λ _. ⌜ now (tape .exit) ≡ writing (now (store .entry)) control (remarkOf given (now (text .entry))) (now (tape .entry)) .bytes ⌝ }
 {
     tape_write::write(store, control, given, text, tape)
+}
+
+// The word of a line of the assembler, or its refusal.
+pub fn assemble(line: &[u8]) -> Assembled
+    ensures { λ r. ⌜ r ≡ assembled (now (line .entry)) ⌝ }
+{
+    assembler::assemble(line)
 }

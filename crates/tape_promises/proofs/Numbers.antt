@@ -13,7 +13,7 @@ use Rattle.machine.specs.Answers.{refusalNumber, verdictNumber}
 use Rattle.machine.specs.declared.Timer.{Timer}
 use Rattle.machine.specs.declared.Record.{Record}
 use Rattle.machine.specs.declared.Refusal.{Refusal}
-use Rattle.machine.specs.declared.Refusal.the-variants.{StoreSize, CellValue, ControlField, Lines, Budget, TapeEnds, RecordKind, RecordLength, BlockPlace, BlockCell, RecordOrder, TapeLength, Device, RemarkLength, WrittenLength, BufferLength, BlockOverlap, TimerField}
+use Rattle.machine.specs.declared.Refusal.the-variants.{StoreSize, CellValue, ControlField, Lines, Budget, TapeEnds, RecordKind, RecordLength, BlockPlace, BlockCell, RecordOrder, TapeLength, Device, RemarkLength, WrittenLength, BufferLength, BlockOverlap, TimerField, LineGrammar, LineDepth, LineValue}
 use Rattle.machine.specs.declared.Verdict.{Verdict}
 use Rattle.machine.specs.declared.Verdict.the-variants.{Accepted, Rejected}
 use Rattle.acceptance.proofs.Tests.{refused}
@@ -237,7 +237,8 @@ verdicts : List Verdict
 verdicts =
     Accepted ∷ Rejected StoreSize ∷ Rejected CellValue ∷ Rejected ControlField ∷ Rejected Lines ∷ Rejected Budget ∷ Rejected TapeEnds ∷ Rejected RecordKind
     ∷ Rejected RecordLength ∷ Rejected BlockPlace ∷ Rejected BlockCell ∷ Rejected RecordOrder ∷ Rejected TapeLength ∷ Rejected Device
-    ∷ Rejected RemarkLength ∷ Rejected WrittenLength ∷ Rejected BufferLength ∷ Rejected BlockOverlap ∷ Rejected TimerField ∷ []
+    ∷ Rejected RemarkLength ∷ Rejected WrittenLength ∷ Rejected BufferLength ∷ Rejected BlockOverlap ∷ Rejected TimerField
+    ∷ Rejected LineGrammar ∷ Rejected LineDepth ∷ Rejected LineValue ∷ []
 
 told : (v : Verdict) → getD verdicts (verdictNumber v) Accepted ≡ v
 unfolding verdicts
@@ -260,6 +261,9 @@ told (Rejected WrittenLength) = refl
 told (Rejected BufferLength) = refl
 told (Rejected BlockOverlap) = refl
 told (Rejected TimerField) = refl
+told (Rejected LineGrammar) = refl
+told (Rejected LineDepth) = refl
+told (Rejected LineValue) = refl
 
 same-number : (v w : Verdict) → verdictNumber v ≡ verdictNumber w → v ≡ w
 same-number v w e = sym (told v) ∙ ap (λ (k : ℕ). getD verdicts k Accepted) e ∙ told w

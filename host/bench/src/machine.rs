@@ -25,6 +25,9 @@ pub trait Machine {
 
     /// Writes the machine's tape, with no remark; gives its length.
     fn write(&self, tape: &mut [u8]) -> usize;
+
+    /// The word of a line.
+    fn assemble(line: &[u8]) -> u32;
 }
 
 /// The machine of a library; both have the same calls.
@@ -76,6 +79,10 @@ macro_rules! machine {
 
             fn write(&self, tape: &mut [u8]) -> usize {
                 $library::write(&self.store, self.control, None, tape).expect("a tape")
+            }
+
+            fn assemble(line: &[u8]) -> u32 {
+                $library::assemble(line).expect("a word")
             }
         }
     };

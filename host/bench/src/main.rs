@@ -3,10 +3,10 @@
 //! A program is a tape whose loop does not end; it is run with the largest
 //! budget again and again. An autoload is the two keys and a run until the
 //! reader's characters end. Each run is lent the same characters and typing
-//! space. In a row of write or load a call counts as one instruction, and for
-//! load the time of one is shown too. The two machines take their slices of time
-//! by turns; the pair of slices with the median ratio is shown. SECONDS is the
-//! time for each row, 4 where it is not given.
+//! space. In a row of write, load or assemble a call counts as one instruction,
+//! and for load the time of one is shown too. The two machines take their slices
+//! of time by turns; the pair of slices with the median ratio is shown. SECONDS is
+//! the time for each row, 4 where it is not given.
 //!
 //! `bench MACHINE ROW RUNS`: no table, but so many runs of one row, counted from
 //! 0, on one machine, `proved` or `emulation`, and the executed instructions; for
@@ -39,15 +39,18 @@ struct Loaded<M> {
     loaded: Option<Vec<u8>>,
     /// Where the row writes: the buffer for the tape.
     written: Option<Vec<u8>>,
+    /// Where the row assembles: the lines.
+    lines: Option<Vec<String>>,
 }
 
 impl<M: Machine> Loaded<M> {
     fn new(row: &Row) -> Self {
         let mut machine = M::new(row.cells);
         machine.load(row.tape);
-        let loaded = match &row.work {
-            Work::Load(blocks) => Some(blocks.tape()),
-            _ => None,
+        let (loaded, lines) = match &row.work {
+            Work::Load(blocks) => (Some(blocks.tape()), None),
+            Work::Assemble(lines) => (None, Some(lines.all())),
+            _ => (None, None),
         };
         let writes = matches!(row.work, Work::Write);
         Loaded {
@@ -58,12 +61,16 @@ impl<M: Machine> Loaded<M> {
             typing: vec![0; row.space],
             loaded,
             written: writes.then(|| vec![0; MAXIMUM_TAPE]),
+            lines,
         }
     }
 
     /// One run with the whole budget; gives the executed instructions. Or one
-    /// load or one call of the writer.
+    /// load, one call of the writer, or the row's lines.
     fn run(&mut self) -> u64 {
+        if let Some(lines) = &self.lines {
+            return assembled::<M>(lines);
+        }
         if let Some(tape) = &self.loaded {
             self.machine.load(tape);
             return 1;
@@ -96,6 +103,14 @@ impl<M: Machine> Loaded<M> {
             }
         }
     }
+}
+
+/// Assembles lines; gives their number. None of them gives the word 0.
+fn assembled<M: Machine>(lines: &[String]) -> u64 {
+    for line in lines {
+        assert_ne!(M::assemble(line.as_bytes()), 0);
+    }
+    lines.len() as u64
 }
 
 /// So many runs of a row's program and nothing else; shows the executed
@@ -152,7 +167,7 @@ fn table(seconds: f64) {
     } else {
         "emulation"
     };
-    println!("instructions per second, in millions (tapes in the rows of write and load); ratio of the two speeds");
+    println!("instructions per second, in millions (tapes in the rows of write and load, lines in those of assemble); ratio of the two speeds");
     println!(
         "{:36} {tested:>10} {:>10} {:>7}",
         "program", "emulation", "ratio"

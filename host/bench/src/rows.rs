@@ -23,6 +23,16 @@ pub enum Work {
     Write,
     /// A load of the tape with these blocks, into the machine as it is.
     Load(Blocks),
+    /// The assembling of these lines, one after the other.
+    Assemble(Lines),
+}
+
+/// Lines for the assembler.
+pub enum Lines {
+    /// Such as a patch has.
+    Short,
+    /// One of as many characters as a line can have.
+    Longest,
 }
 
 /// The blocks of a tape: so many, of so many cells each, in this order.
@@ -100,6 +110,13 @@ const fn loads(name: &'static str, store: usize, blocks: Blocks) -> Row {
     }
 }
 
+const fn assembles(name: &'static str, lines: Lines) -> Row {
+    Row {
+        work: Work::Assemble(lines),
+        ..calls(name, 4096)
+    }
+}
+
 /// Of one cell each.
 const fn many(between: u32, order: Order) -> Blocks {
     Blocks {
@@ -117,7 +134,7 @@ const ONE: Blocks = Blocks {
     order: Order::Rising,
 };
 
-pub const ROWS: [Row; 21] = [
+pub const ROWS: [Row; 23] = [
     program("register loop", tape!("registers")),
     program("register loop, timer on", tape!("timer")),
     program("byte copy loop", tape!("bytes")),
@@ -164,7 +181,45 @@ pub const ROWS: [Row; 21] = [
         many(1822, Order::Mixed),
     ),
     loads("load, 1,048,576 cells", 1_048_576, ONE),
+    assembles("assemble, short lines", Lines::Short),
+    assembles("assemble, 255 characters", Lines::Longest),
 ];
+
+impl Lines {
+    /// The lines.
+    pub fn all(&self) -> Vec<String> {
+        match self {
+            Lines::Short => SHORT_LINES.map(String::from).to_vec(),
+            Lines::Longest => vec![longest_line()],
+        }
+    }
+}
+
+const SHORT_LINES: [&str; 12] = [
+    "AL W1 20",
+    "RL W2 X1,0-2",
+    "RS. W3 24",
+    "JL. W3 [X2,2*(100+12)]",
+    "SE W0 0",
+    "JL. W0 0-6",
+    "AM W0 [1000]",
+    "WM W1 X3,4*12+2",
+    "LD W1 0-12",
+    "FD. W2 [0-40]",
+    "DS W3 X2,8",
+    "SS W1 2046",
+];
+
+/// A line of 255 characters with numbers of one to four digits and all
+/// operators.
+fn longest_line() -> String {
+    let mut line = String::from("AL. W1 [X2,");
+    while line.len() < 220 {
+        line.push_str("2*(17-3*(5+0012))+1000-0990+");
+    }
+    let left = 255 - line.len() - "]".len();
+    format!("{line}{}]", "0".repeat(left))
+}
 
 impl Blocks {
     /// The tape; control record and end

@@ -1,30 +1,36 @@
 //! The bytes of the cases and the lines of their answers.
 //!
 //! A case is a row of numbers of 4 bytes, little-endian: the call (0 run, 1 reset
-//! key, 2 start key, 3 autoload key, 4 write), the number of cells, lines, budget,
-//! eleven fields of the control record (IC, IR, IM, pending, PR, EX, the flags
-//! summed as on a tape, elapsed, period, phase, line), the device buffer registers
-//! of reader and typewriter, the number of characters, the length of the typing
-//! buffer; then the cells, the characters and the bytes of the typing buffer, a
-//! number each.
+//! key, 2 start key, 3 autoload key, 4 write, 5 assemble), the number of cells,
+//! lines, budget, eleven fields of the control record (IC, IR, IM, pending, PR, EX,
+//! the flags summed as on a tape, elapsed, period, phase, line), the device buffer
+//! registers of reader and typewriter, the number of characters, the length of the
+//! typing buffer; then the cells, the characters and the bytes of the typing
+//! buffer, a number each.
 //! A write has the remark in place of the characters, the output buffer in place
 //! of the typing buffer, and in place of the lines 1 where a remark is given,
 //! else 0.
+//! An assemble has the line in place of the characters; all other numbers after
+//! the call are 0.
 //!
 //! An answer is a line: of a run outcome, number, executed, entries, taken and
 //! typed; of the reset and start keys the refusal; of the autoload key the
 //! refusal and taken; of a write the refusal and the length of the tape. Then for
-//! every call the eleven fields, the two registers and the checksums of the cells
-//! and of the typing or output buffer.
+//! each of these calls the eleven fields, the two registers and the checksums of
+//! the cells and of the typing or output buffer. Of an assemble it is the refusal
+//! and the word, nothing else.
 
 use protocol::{
     output_buffer, Control, Devices, Kind, Listed, Outcome, Refusal, Report, Request, Run,
 };
 use std::fmt::Write;
 
+/// The call that has a line and nothing else.
+const ASSEMBLE: u32 = 5;
+
 /// What a case asks for, with a store of all its cells. What a call does not
-/// take is zero or empty. `characters` are those of the reader or of a remark,
-/// `typing` is a typing buffer or an output buffer.
+/// take is zero or empty. `characters` are those of the reader, of a remark or of
+/// a line, `typing` is a typing buffer or an output buffer.
 struct Call {
     kind: u32,
     store: Vec<u32>,
@@ -61,7 +67,8 @@ impl Call {
                 ..Call::key(3, store, control)
             },
             Request::Write(write) => Call::write(write),
-            _ => panic!("a case is a run, a key or a write"),
+            Request::Assemble { line } => Call::assemble(line),
+            _ => panic!("a case is a run, a key, a write or a line"),
         }
     }
 
@@ -71,6 +78,19 @@ impl Call {
             characters: write.remark.clone().unwrap_or_default(),
             typing: output_buffer(write.space),
             ..Call::key(4, &write.store, &write.control)
+        }
+    }
+
+    fn assemble(line: &[u8]) -> Self {
+        let zeros = Control {
+            pr: 0,
+            monitor: false,
+            reset: false,
+            ..Control::fresh()
+        };
+        Call {
+            characters: line.to_vec(),
+            ..Call::key(ASSEMBLE, &Listed::default(), &zeros)
         }
     }
 
@@ -133,6 +153,7 @@ impl Call {
             3 => of_count(emulation::press_autoload(
                 store, control, devices, characters,
             )),
+            ASSEMBLE => of_word(emulation::assemble(characters)),
             _ => {
                 let remark = (self.lines == 1).then_some(&characters[..]);
                 of_count(emulation::write(store, *control, remark, &mut self.typing))
@@ -140,9 +161,13 @@ impl Call {
         }
     }
 
-    /// Its result, then control record, device buffer registers and checksums.
+    /// Its result, then control record, device buffer registers and checksums
+    /// where the call has them.
     fn answer(&mut self) -> Vec<u32> {
         let mut numbers = self.made();
+        if self.kind == ASSEMBLE {
+            return numbers;
+        }
         numbers.extend(fields(&self.control));
         numbers.extend(registers(&self.devices));
         numbers.push(checksum(self.store.iter().copied()));
@@ -174,6 +199,14 @@ fn of_run(result: Result<Report, Refusal>) -> Vec<u32> {
 fn of_count(result: Result<usize, Refusal>) -> Vec<u32> {
     match result {
         Ok(count) => vec![0, count as u32],
+        Err(refusal) => vec![refusal.number(), 0],
+    }
+}
+
+/// The refusal and the word.
+fn of_word(result: Result<u32, Refusal>) -> Vec<u32> {
+    match result {
+        Ok(word) => vec![0, word],
         Err(refusal) => vec![refusal.number(), 0],
     }
 }

@@ -1,5 +1,5 @@
 //! The stored cases of `crates/cases_calls`: runs, keys and writes on small
-//! stores, with the answers of the emulation.
+//! stores, and lines for the assembler, with the answers of the emulation.
 //!
 //! The format of the two files is described in `crates/cases_calls/README.md`.
 
@@ -7,6 +7,7 @@
 #![warn(missing_docs)]
 
 mod arithmetic;
+mod assembly;
 mod devices;
 mod files;
 mod instructions;
@@ -25,8 +26,11 @@ use protocol::{Emulation, FrontEnd, Request};
 /// The seed of the stored random cases.
 pub const SEED: u64 = 4000;
 
-/// The number of random cases.
+/// The number of random machines.
 pub const RANDOM: usize = 3000;
+
+/// The number of random lines.
+pub const LINES: usize = 300;
 
 /// The most cells of a case.
 pub const CELLS: usize = 64;
@@ -37,15 +41,19 @@ pub const LENT: usize = 40;
 /// The most bytes of a remark.
 pub const REMARK: usize = 257;
 
+/// The most characters of a line.
+pub const LINE: usize = 257;
+
 /// The most bytes of an output buffer.
 pub const BUFFER: usize = 512;
 
 /// The most cycles of a random case that is not refused.
 const CYCLES: u32 = 12;
 
-/// The chosen cases, then the first random ones of a seed that are small.
+/// The chosen cases, then the first random machines of a seed that are small and
+/// its first random lines.
 pub fn cases(seed: u64) -> Vec<Request> {
-    let random = (0..).map(|number| compare::case(seed, number).request);
+    let random = || (0..).map(|number| compare::case(seed, number).request);
     instructions::cases()
         .into_iter()
         .chain(refusals::cases())
@@ -55,7 +63,9 @@ pub fn cases(seed: u64) -> Vec<Request> {
         .chain(devices::cases())
         .chain(timers::cases())
         .chain(writes::cases())
-        .chain(random.filter(is_small).take(RANDOM))
+        .chain(assembly::cases())
+        .chain(random().filter(is_small).take(RANDOM))
+        .chain(random().filter(is_short_line).take(LINES))
         .collect()
 }
 
@@ -80,6 +90,10 @@ fn is_small(request: &Request) -> bool {
         }
         _ => false,
     }
+}
+
+fn is_short_line(request: &Request) -> bool {
+    matches!(request, Request::Assemble { line } if line.len() <= LINE)
 }
 
 /// What the cases are about.

@@ -27,6 +27,7 @@ fn the_lengths_in_the_input_make_up_the_whole() {
         let [cells, characters, space] = [1, 17, 18].map(|field| numbers[place + field]);
         let [most_characters, most_space] = match numbers[place] {
             4 => [cases::REMARK, cases::BUFFER],
+            5 => [cases::LINE, 0],
             _ => [cases::LENT, cases::LENT],
         };
         assert!(cells <= cases::CELLS && characters <= most_characters && space <= most_space);

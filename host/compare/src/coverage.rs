@@ -3,6 +3,7 @@
 //! A run is gone through again cycle by cycle by the emulation, to see which
 //! instruction each cycle met and what became of it.
 
+use crate::assembly_events::{assembly_events, AssembledWords, ASSEMBLY_EVENTS};
 use crate::block_events::{block_events, load_events, BLOCK_EVENTS};
 use crate::device_events::{key_events, run_events, DeviceInstruction, DEVICE_EVENTS};
 use crate::generator::Case;
@@ -29,7 +30,7 @@ pub const MNEMONICS: [&str; 64] = [
     "FA", "FS", "FM", "KS", "FD", "CF", "DL", "DS", "AA", "SS", "58", "59", "60", "61", "62", "63",
 ];
 
-const CALLS: [&str; 8] = [
+const CALLS: [&str; 9] = [
     "run",
     "reset key",
     "start key",
@@ -38,6 +39,7 @@ const CALLS: [&str; 8] = [
     "overlay",
     "remark",
     "write",
+    "assembler",
 ];
 /// Those of them that put a tape into a store.
 const LOADS: [usize; 2] = [4, 5];
@@ -83,6 +85,7 @@ pub struct Coverage {
     /// The same where every cell of the store is in use.
     answers_in_use: BTreeMap<(usize, u32), u64>,
     damages: BTreeMap<usize, u64>,
+    assembled: AssembledWords,
     events: BTreeMap<&'static str, u64>,
 }
 
@@ -124,7 +127,8 @@ fn all_events() -> impl Iterator<Item = &'static str> {
         .chain(WRITE_EVENTS)
         .chain(BLOCK_EVENTS)
         .chain(LOAD_EVENTS)
-        .chain(TIMER_EVENTS);
+        .chain(TIMER_EVENTS)
+        .chain(ASSEMBLY_EVENTS);
     EVENTS.into_iter().chain(devices_and_tapes)
 }
 
@@ -134,7 +138,8 @@ pub fn holding(names: &[(bool, &'static str)]) -> Vec<&'static str> {
     held.map(|&(_, name)| name).collect()
 }
 
-fn add<K: Ord>(counts: &mut BTreeMap<K, u64>, key: K) {
+/// Counts one more.
+pub fn add<K: Ord>(counts: &mut BTreeMap<K, u64>, key: K) {
     *counts.entry(key).or_insert(0) += 1;
 }
 
@@ -182,6 +187,7 @@ impl Coverage {
                 self.events(kept_events(store, tape, answer));
             }
             Request::Remark { cells, tape } => self.count_tape(*cells, tape, answer),
+            Request::Assemble { line } => self.count_line(line, answer),
             machine => self.count_machine(machine, answer),
         }
     }
@@ -213,6 +219,13 @@ impl Coverage {
                 self.events(written_timer_events(write, answer));
             }
             _ => (),
+        }
+    }
+
+    fn count_line(&mut self, line: &[u8], answer: &Answer) {
+        self.events(assembly_events(line, answer));
+        if let Answer::Word(word) = answer {
+            self.assembled.count(*word);
         }
     }
 
@@ -253,6 +266,7 @@ impl Coverage {
             Request::Overlay { .. } => 5,
             Request::Remark { .. } => 6,
             Request::Write(_) => 7,
+            Request::Assemble { .. } => 8,
         };
         let number = match answer {
             Answer::Refused(refusal) => refusal.number(),
@@ -426,6 +440,11 @@ impl Coverage {
         times(&self.answers, (7, 0))
     }
 
+    /// How many lines gave a word.
+    pub fn assembled(&self) -> u64 {
+        times(&self.answers, (8, 0))
+    }
+
     /// How many tapes were refused for overlapping blocks.
     pub fn overlapping(&self) -> u64 {
         let calls = [4, 5, 6].map(|call| times(&self.answers, (call, 17)));
@@ -452,6 +471,7 @@ impl Coverage {
         missing.extend(absent(0..DAMAGES.len(), &self.damages, |place| {
             format!("{:?}", DAMAGES[place])
         }));
+        missing.extend(self.assembled.missing());
         missing.extend(absent(all_events(), &self.events, str::to_string));
         missing
     }
@@ -511,7 +531,7 @@ impl Coverage {
 }
 
 /// The names of those that were never counted.
-fn absent<K: Ord + Copy>(
+pub fn absent<K: Ord + Copy>(
     all: impl IntoIterator<Item = K>,
     counts: &BTreeMap<K, u64>,
     name: impl Fn(K) -> String,
@@ -523,7 +543,7 @@ fn absent<K: Ord + Copy>(
 }
 
 /// The refusals that each call can give; 0 stands for none.
-const EXPECTED_ANSWERS: [&[u32]; 8] = [
+const EXPECTED_ANSWERS: [&[u32]; 9] = [
     &[0, 1, 2, 3, 4, 5, 13, 18],
     &[0, 1, 2, 3, 18],
     &[0, 1, 2, 3, 18],
@@ -532,6 +552,7 @@ const EXPECTED_ANSWERS: [&[u32]; 8] = [
     &[0, 1, 2, 3, 6, 7, 8, 9, 10, 11, 12, 17, 18],
     &[0, 1, 3, 6, 7, 8, 9, 10, 11, 12, 17, 18],
     &[0, 1, 2, 3, 14, 15, 16, 18],
+    &[0, 19, 20, 21],
 ];
 
 fn byte(store: &[u32], address: u32) -> Option<u32> {
@@ -608,7 +629,8 @@ fn split(bits: u64) -> (i64, i64) {
     (fraction, exponent)
 }
 
-fn times<K: Ord>(counts: &BTreeMap<K, u64>, key: K) -> u64 {
+/// How often something was counted.
+pub fn times<K: Ord>(counts: &BTreeMap<K, u64>, key: K) -> u64 {
     counts.get(&key).copied().unwrap_or(0)
 }
 
@@ -620,7 +642,7 @@ fn write_counts(
     answers: &BTreeMap<(usize, u32), u64>,
 ) -> fmt::Result {
     write!(formatter, "  {name}: done {}", times(answers, (call, 0)))?;
-    for number in 1..=18 {
+    for number in 1..=21 {
         if let Some(times) = answers.get(&(call, number)) {
             write!(formatter, ", refused {number} {times}")?;
         }
@@ -725,6 +747,7 @@ impl fmt::Display for Coverage {
         self.write_times(formatter)?;
         self.write_answers(formatter)?;
         self.write_floats(formatter)?;
+        write!(formatter, "{}", self.assembled)?;
         writeln!(formatter, "events:")?;
         for name in all_events() {
             writeln!(formatter, "  {name} {}", times(&self.events, name))?;

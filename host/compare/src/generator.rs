@@ -1,5 +1,6 @@
 //! Random requests.
 
+use crate::assembly;
 use crate::lent::{self, refuse_device};
 use crate::machines::{self, Image};
 use crate::random::Random;
@@ -19,10 +20,15 @@ pub struct Case {
     pub second: Option<Vec<u8>>,
 }
 
-/// The case that a seed and a number determine.
+/// The case that a seed and a number determine; every tenth is a line for the
+/// assembler.
 pub fn case(seed: u64, number: u64) -> Case {
     let mut random = Random::for_case(seed, number);
     let random = &mut random;
+    if number % 10 == 9 {
+        let line = assembly::line(random);
+        return without_tape(Request::Assemble { line });
+    }
     if random.one_in(7) {
         return without_tape(write(random));
     }

@@ -1,8 +1,11 @@
-//! Random machines and tapes: one machine's answers against another's.
+//! Random machines, tapes and lines: one machine's answers against another's.
 
 #![forbid(unsafe_code)]
 #![warn(missing_docs)]
 
+mod addresses;
+mod assembly;
+mod assembly_events;
 mod block_events;
 mod blocks;
 mod coverage;
@@ -31,6 +34,7 @@ pub use tapes::{Damage, DAMAGES};
 pub use words::{assemble, WORD};
 pub use writes::LAST_RECORDS;
 
+use emulation::disassemble;
 use loads::{changes, done_again, old_cells, Laid};
 use protocol::{Answer, FrontEnd, Machine, Request, Write};
 use std::fmt;
@@ -60,7 +64,8 @@ impl fmt::Display for Difference {
 /// Asks both machines the first `count` cases of `seed`, up to the first
 /// difference. What the cases were about is counted in `coverage`. A written
 /// tape is loaded again by both; of a load or overlay that was done both must
-/// leave what the blocks of the tape say.
+/// leave what the blocks of the tape say; a word of a line must come from the
+/// shortest line for it too.
 pub fn compare(
     tested: impl Machine,
     expected: impl Machine,
@@ -110,7 +115,8 @@ impl<T: Machine, E: Machine> Machines<T, E> {
         answer: &Answer,
     ) -> Result<(), Box<Difference>> {
         let written = loaded_again(request, answer).into_iter().flatten();
-        for (request, answer) in written.chain(done_again(request, answer)) {
+        let tapes = written.chain(done_again(request, answer));
+        for (request, answer) in tapes.chain(assembled_again(answer)) {
             same(number, &request, self.tested.answer(&request), &answer)?;
             same(number, &request, self.expected.answer(&request), &answer)?;
         }
@@ -162,6 +168,20 @@ fn loaded_again(request: &Request, answer: &Answer) -> Option<[(Request, Answer)
         tape: tape.clone(),
     };
     Some([(load, loaded), (read, remark_on(tape, remark.as_deref()))])
+}
+
+/// For the word of a line: the shortest line that gives it, with the answer that
+/// it must have.
+fn assembled_again(answer: &Answer) -> Option<(Request, Answer)> {
+    let Answer::Word(word) = answer else {
+        return None;
+    };
+    // No machine answers `Bad`: a word that no line gives is a difference.
+    let Some(line) = disassemble(*word) else {
+        return Some((Request::Assemble { line: Vec::new() }, Answer::Bad));
+    };
+    let line = line.into_bytes();
+    Some((Request::Assemble { line }, Answer::Word(*word)))
 }
 
 /// What a reader answers where a tape begins with this remark, or has none. No

@@ -115,7 +115,7 @@ impl Counts {
 #[test]
 fn a_list_of_budgets_leaves_what_the_one_run_leaves() {
     let mut counts = Counts::default();
-    for (number, run) in runs(11, 240_000) {
+    for (number, run) in runs(11, 270_000) {
         let budgets = budgets(number);
         let one = list(&Emulation, &run, &[budgets.iter().sum()]);
         let all = list(&Emulation, &run, &budgets);

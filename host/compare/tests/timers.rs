@@ -227,6 +227,10 @@ impl Machine for Flawed {
         };
         Emulation.write(store, written, remark, tape)
     }
+
+    fn assemble(&self, line: &[u8]) -> Result<u32, Refusal> {
+        Emulation.assemble(line)
+    }
 }
 
 #[test]

@@ -29,6 +29,7 @@
 #![forbid(unsafe_code)]
 #![warn(missing_docs)]
 
+mod assembler;
 mod bits;
 mod channel;
 mod control;
@@ -43,6 +44,7 @@ mod store;
 mod tape;
 mod times;
 
+pub use assembler::{assemble, disassemble, MAXIMUM_DEPTH, MAXIMUM_LINE, MNEMONIC_CODES};
 pub use channel::Devices;
 pub use control::Control;
 pub use refusal::Refusal;

@@ -42,6 +42,13 @@ pub enum Refusal {
     /// 18: the period of the timer is not 0, and its line is outside 3 to 23 or
     /// its phase is not below the period.
     Timer = 18,
+    /// 19: a line over 255 characters or outside the grammar, whatever its depth.
+    LineGrammar = 19,
+    /// 20: round parentheses to a depth over 16.
+    LineDepth = 20,
+    /// 21: a number or a result outside -8,388,608 to 8,388,607, or a last one
+    /// outside -2048 to 2047.
+    LineValue = 21,
 }
 
 impl Refusal {
@@ -72,6 +79,9 @@ impl Refusal {
             BufferLength,
             BlockOverlap,
             Timer,
+            LineGrammar,
+            LineDepth,
+            LineValue,
         ];
         all.into_iter().find(|refusal| refusal.number() == number)
     }

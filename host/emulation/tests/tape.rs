@@ -324,7 +324,7 @@ fn the_number_of_the_overlap() {
     assert_eq!(Refusal::BlockOverlap.number(), 17);
     assert_eq!(Refusal::from_number(17), Some(Refusal::BlockOverlap));
     assert_eq!(Refusal::BlockOverlap.to_string(), "refused 17");
-    assert_eq!(Refusal::from_number(19), None);
+    assert_eq!(Refusal::from_number(22), None);
 }
 
 #[test]

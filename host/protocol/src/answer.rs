@@ -45,6 +45,8 @@ pub enum Answer {
     Remark(Option<Range<usize>>),
     /// The tape that was written.
     Written(Vec<u8>),
+    /// The word of a line.
+    Word(u32),
     /// A refusal; all that was lent came back as given.
     Refused(Refusal),
     /// A refusal that changed something, which no machine should give.
@@ -91,6 +93,13 @@ fn write_lent(formatter: &mut fmt::Formatter, devices: &Devices, typing: &[u8]) 
     write_bytes(formatter, typing)
 }
 
+fn write_remark(formatter: &mut fmt::Formatter, text: Option<&Range<usize>>) -> fmt::Result {
+    match text {
+        None => write!(formatter, "none"),
+        Some(text) => write!(formatter, "at {} {}", text.start, text.end),
+    }
+}
+
 fn write_tape(formatter: &mut fmt::Formatter, tape: &[u8]) -> fmt::Result {
     write!(formatter, "tape ")?;
     write_bytes(formatter, tape)
@@ -127,9 +136,9 @@ impl fmt::Display for Answer {
                 write!(formatter, "ok ")?;
                 write_machine(formatter, control, changed)
             }
-            Answer::Remark(None) => write!(formatter, "none"),
-            Answer::Remark(Some(text)) => write!(formatter, "at {} {}", text.start, text.end),
+            Answer::Remark(text) => write_remark(formatter, text.as_ref()),
             Answer::Written(tape) => write_tape(formatter, tape),
+            Answer::Word(word) => write!(formatter, "word {word}"),
             Answer::Refused(refusal) => write!(formatter, "{refusal}"),
             Answer::RefusedAndChanged(refusal) => write!(formatter, "{refusal} and changed"),
             Answer::BeyondLent => write!(formatter, "beyond what was lent"),

@@ -90,6 +90,7 @@ impl<M: Machine> FrontEnd<M> {
                 Err(refusal) => Answer::Refused(refusal),
             },
             Request::Write(write) => self.write(write),
+            Request::Assemble { line } => self.assemble(line),
         }
     }
 
@@ -171,6 +172,13 @@ impl<M: Machine> FrontEnd<M> {
             }
             Ok(_) => Answer::BeyondLent,
             Err(refusal) => refused(refusal, kept && tape == lent),
+        }
+    }
+
+    fn assemble(&mut self, line: &[u8]) -> Answer {
+        match self.machine.assemble(line) {
+            Ok(word) => Answer::Word(word),
+            Err(refusal) => Answer::Refused(refusal),
         }
     }
 

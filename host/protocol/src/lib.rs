@@ -7,7 +7,8 @@
 //! for no byte. `dev0 dev1` are the device buffer registers, `chars` the reader's
 //! characters in hex, `typing` the typing buffer with what it holds, in an answer
 //! the whole buffer after the run. In `write`, `remark` is `none`, `-` for an
-//! empty one, or hex, and `buffer` the length of the output buffer.
+//! empty one, or hex, and `buffer` the length of the output buffer. `line` is a
+//! line of the assembler in hex, `-` for the empty one.
 //!
 //! | request | answer |
 //! |---|---|
@@ -17,6 +18,7 @@
 //! | `load N cells tape`, `overlay N cells tape` | `ok ctl changed` |
 //! | `remark N tape` | `none` or `at S E` |
 //! | `write N cells ctl remark buffer` | `tape HEX` |
+//! | `asm line` | `word W` |
 //!
 //! OUTCOME is `spent`, `reset`, `exception` or `line:K`. A refusal answers
 //! `refused K`, a request that cannot be read `bad`. `changed` lists the cells

@@ -1,4 +1,4 @@
-//! What answers a request: the eight calls of a machine.
+//! What answers a request: the nine calls of a machine.
 
 use emulation::{Control, Devices, Refusal, Report};
 
@@ -51,6 +51,9 @@ pub trait Machine {
         remark: Option<&[u8]>,
         tape: &mut [u8],
     ) -> Result<usize, Refusal>;
+
+    /// The word of a line of the assembler.
+    fn assemble(&self, line: &[u8]) -> Result<u32, Refusal>;
 }
 
 /// The emulation as a machine.
@@ -113,5 +116,9 @@ impl Machine for Emulation {
         tape: &mut [u8],
     ) -> Result<usize, Refusal> {
         emulation::write(store, control, remark, tape)
+    }
+
+    fn assemble(&self, line: &[u8]) -> Result<u32, Refusal> {
+        emulation::assemble(line)
     }
 }

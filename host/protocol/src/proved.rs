@@ -156,4 +156,8 @@ impl Machine for Proved {
     ) -> Result<usize, Refusal> {
         rc4000::write(store, to_library(&control), remark, tape).map_err(refusal)
     }
+
+    fn assemble(&self, line: &[u8]) -> Result<u32, Refusal> {
+        rc4000::assemble(line).map_err(refusal)
+    }
 }

@@ -102,6 +102,11 @@ pub enum Request {
     },
     /// `write N cells ctl remark buffer`.
     Write(Write),
+    /// `asm line`.
+    Assemble {
+        /// The characters of the line.
+        line: Vec<u8>,
+    },
 }
 
 impl Request {
@@ -139,6 +144,7 @@ impl Request {
                 tape: bytes(tape)?,
             }),
             ["write", ref fields @ ..] => write(fields).map(Request::Write),
+            ["asm", line] => Ok(Request::Assemble { line: bytes(line)? }),
             _ => Err(Bad),
         }
     }
@@ -323,6 +329,15 @@ pub(crate) fn write_bytes(formatter: &mut fmt::Formatter, bytes: &[u8]) -> fmt::
         .try_for_each(|byte| write!(formatter, "{byte:02x}"))
 }
 
+/// Bytes as [`write_bytes`] writes them.
+struct Hex<'a>(&'a [u8]);
+
+impl fmt::Display for Hex<'_> {
+    fn fmt(&self, formatter: &mut fmt::Formatter) -> fmt::Result {
+        write_bytes(formatter, self.0)
+    }
+}
+
 impl fmt::Display for Listed {
     /// `N cells`; cells of zero are left out.
     fn fmt(&self, formatter: &mut fmt::Formatter) -> fmt::Result {
@@ -387,19 +402,11 @@ impl fmt::Display for Request {
                 write!(formatter, " ")?;
                 write_bytes(formatter, characters)
             }
-            Request::Load { store, tape } => {
-                write!(formatter, "load {store} ")?;
-                write_bytes(formatter, tape)
-            }
-            Request::Overlay { store, tape } => {
-                write!(formatter, "overlay {store} ")?;
-                write_bytes(formatter, tape)
-            }
-            Request::Remark { cells, tape } => {
-                write!(formatter, "remark {cells} ")?;
-                write_bytes(formatter, tape)
-            }
+            Request::Load { store, tape } => write!(formatter, "load {store} {}", Hex(tape)),
+            Request::Overlay { store, tape } => write!(formatter, "overlay {store} {}", Hex(tape)),
+            Request::Remark { cells, tape } => write!(formatter, "remark {cells} {}", Hex(tape)),
             Request::Write(write) => write!(formatter, "write {write}"),
+            Request::Assemble { line } => write!(formatter, "asm {}", Hex(line)),
         }
     }
 }

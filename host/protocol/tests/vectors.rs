@@ -11,7 +11,7 @@ fn vectors(name: &str) -> String {
 
 #[test]
 fn stored_answers() {
-    let (cases, answers) = (vectors("e6.cases"), vectors("e6.answers"));
+    let (cases, answers) = (vectors("e7.cases"), vectors("e7.answers"));
     let mut output = Vec::new();
     serve(Emulation, cases.as_bytes(), &mut output).unwrap();
     let output = String::from_utf8(output).unwrap();
@@ -23,13 +23,13 @@ fn stored_answers() {
 
 #[test]
 fn requests_print_as_they_are_read() {
-    for line in vectors("e6.cases").lines() {
+    for line in vectors("e7.cases").lines() {
         let request = Request::parse(line).unwrap();
         assert_eq!(Request::parse(&request.to_string()), Ok(request));
     }
 }
 
-const BAD: [&str; 36] = [
+const BAD: [&str; 41] = [
     "",
     "walk 8 -",
     "run 8 8=1 0 0 0 0 128 0 1 0 0 0 0 0 0 0 0 0 0 - -",
@@ -66,6 +66,11 @@ const BAD: [&str; 36] = [
     "write 8 - 0 0 0 0 128 0 1 0 0 0 0 0 0  32",
     "write 8 - 0 0 0 0 128 0 1 0 0 0 0 0 0 none -1",
     "write 8 - 0 0 0 0 128 0 1 0 0 0 0 0 0 none +32",
+    "asm",
+    "asm ",
+    "asm 0",
+    "asm 4G",
+    "asm 41 41",
 ];
 
 #[test]
@@ -136,4 +141,20 @@ fn written_tapes() {
     assert_eq!(answer("none", "44"), "refused 16");
     assert_eq!(answer("none", "0"), "refused 16");
     assert_eq!(answer(&"00".repeat(256), "0"), "refused 14");
+}
+
+#[test]
+fn assembled_lines() {
+    let mut front_end = FrontEnd::new(Emulation);
+    let mut answer = |line: &str| {
+        let digits: String = line.bytes().map(|byte| format!("{byte:02x}")).collect();
+        front_end.answer_line(&format!("asm {digits}")).to_string()
+    };
+    assert_eq!(answer("AL. W1 [X2,5]"), "word 3006469");
+    assert_eq!(answer("AW W0 0"), "word 0");
+    assert_eq!(answer("AW W0 -1"), "refused 19");
+    let deep = format!("AW W0 {}9{}", "(".repeat(17), ")".repeat(17));
+    assert_eq!(answer(&deep), "refused 20");
+    assert_eq!(answer("AW W0 2048"), "refused 21");
+    assert_eq!(front_end.answer_line("asm -").to_string(), "refused 19");
 }

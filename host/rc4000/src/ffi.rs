@@ -60,6 +60,12 @@ pub struct Written {
     pub length: usize,
 }
 
+#[repr(C)]
+pub struct Assembled {
+    pub refusal: u32,
+    pub word: u32,
+}
+
 extern "C" {
     pub fn rc4000_run(
         store: *mut u32,
@@ -108,6 +114,7 @@ extern "C" {
         tape: *mut u8,
         space: usize,
     ) -> Written;
+    pub fn rc4000_assemble(line: *const u8, length: usize) -> Assembled;
 }
 
 const _: () = {
@@ -138,6 +145,8 @@ const _: () = {
     assert!(offset_of!(Text, start) == 8);
     assert!(size_of::<Written>() == 16);
     assert!(offset_of!(Written, length) == 8);
+    assert!(size_of::<Assembled>() == 8);
+    assert!(offset_of!(Assembled, word) == 4);
 };
 
 impl From<Control> for ControlRecord {
@@ -253,6 +262,19 @@ impl Written {
             0 => Ok(self.length),
             number => {
                 assert!(self.length == 0);
+                Err(refusal(number))
+            }
+        }
+    }
+}
+
+impl Assembled {
+    /// The word.
+    pub fn hand_back(self) -> Result<u32, Refusal> {
+        match self.refusal {
+            0 => Ok(self.word),
+            number => {
+                assert!(self.word == 0);
                 Err(refusal(number))
             }
         }

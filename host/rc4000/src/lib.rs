@@ -9,6 +9,8 @@
 //! 1: a call lends the reader's characters and a buffer for the typed ones. A
 //! later call goes on with what the one before left of both.
 //!
+//! Instructions can be written as lines of text: [`assemble`] gives their words.
+//!
 //! On a refusal all that is lent is as it was given.
 
 #![warn(missing_docs)]
@@ -194,4 +196,28 @@ pub fn write(
         )
     };
     written.hand_back()
+}
+
+/// The word of a line of the assembler: a mnemonic code, a dot if relative, the
+/// working register, and the address, which an index register may precede;
+/// index register and address stand in square brackets if indirect. An address
+/// is an expression of decimal numbers, `+`, `-`, `*` and round parentheses.
+///
+/// Refusals are [`Refusal::LineGrammar`], [`Refusal::LineDepth`] and
+/// [`Refusal::LineValue`], tested in this order.
+///
+/// ```
+/// use rc4000::{assemble, Machine, Refusal};
+///
+/// let mut machine = Machine::fresh(64);
+/// machine.set_word(20, assemble(b"AL W1 X1,2*(3+4)")?);
+/// machine.set_word(22, assemble(b"JL. W0 0-2")?);
+/// assert_eq!(machine.word(20), Some(11 << 18 | 1 << 16 | 1 << 12 | 14));
+/// assert_eq!(assemble(b"AL W1 -2"), Err(Refusal::LineGrammar));
+/// # Ok::<(), Refusal>(())
+/// ```
+pub fn assemble(line: &[u8]) -> Result<u32, Refusal> {
+    // SAFETY: pointer and length are those of one slice, which is only read.
+    let assembled = unsafe { ffi::rc4000_assemble(line.as_ptr(), line.len()) };
+    assembled.hand_back()
 }

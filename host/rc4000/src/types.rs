@@ -213,6 +213,14 @@ pub enum Refusal {
     /// 18: a timer line outside 3 to 23 or a phase not below the period, where
     /// the period is not 0.
     Timer = 18,
+    /// 19: a line over 255 characters or outside the grammar, whatever its
+    /// depth.
+    LineGrammar = 19,
+    /// 20: a line with round parentheses to a depth over 16.
+    LineDepth = 20,
+    /// 21: a number or a result in an address outside -8,388,608 to 8,388,607,
+    /// or an address outside -2048 to 2047.
+    LineValue = 21,
 }
 
 impl Refusal {
@@ -250,6 +258,11 @@ impl Refusal {
             Refusal::Timer => {
                 "a timer line outside 3 to 23 or a phase not below the period, where the period is not 0"
             }
+            Refusal::LineGrammar => "a line over 255 characters or outside the grammar",
+            Refusal::LineDepth => "a line with parentheses to a depth over 16",
+            Refusal::LineValue => {
+                "a value of an address outside -8,388,608 to 8,388,607, or the last one outside -2048 to 2047"
+            }
         }
     }
 
@@ -274,6 +287,9 @@ impl Refusal {
             16 => Refusal::BufferLength,
             17 => Refusal::BlockOverlap,
             18 => Refusal::Timer,
+            19 => Refusal::LineGrammar,
+            20 => Refusal::LineDepth,
+            21 => Refusal::LineValue,
             _ => return None,
         })
     }

@@ -209,13 +209,13 @@ fn a_refusal_says_what_it_means_as_in_c() {
     let (_, rest) = HEADER.split_once("texts[] = {").unwrap();
     let (texts, _) = rest.split_once("};").unwrap();
     let said: Vec<&str> = texts.trim().lines().skip(1).map(str::trim).collect();
-    assert_eq!(said.len(), 18);
+    assert_eq!(said.len(), 21);
     for (number, text) in (1..).zip(said) {
         let refusal = Refusal::from_number(number).unwrap();
         assert_eq!(text, format!("\"{}\",", refusal.text()));
         assert_eq!(numbers.get(name_in_c(refusal).as_str()), Some(&number));
     }
-    assert_eq!(Refusal::from_number(19), None);
+    assert_eq!(Refusal::from_number(22), None);
 }
 
 #[test]

@@ -1,4 +1,4 @@
--- Eighteen arms are more than the prover's own search closes.
+-- Twenty-one arms are more than the prover's own search closes.
 use borrow.Author.Needs.{needs}
 use Rattle.machine.proofs.Refusal.number.Statement.{statement}
 use Rattle.machine.proofs.Refusal.number.Tie as tie
@@ -7,6 +7,9 @@ pub number-spec : {M : Type 1} → statement M
 number-spec =
     tie.close
     (tie.spec
+    (λ c. search needs)
+    (λ c. search needs)
+    (λ c. search needs)
     (λ c. search needs)
     (λ c. search needs)
     (λ c. search needs)
@@ -42,4 +45,7 @@ number-spec =
     (λ c. rw (c .enum-told15 .given .1))
     (λ c. rw (c .enum-told16 .given .1))
     (λ c. rw (c .enum-told17 .given .1))
-    (λ c. rw (c .enum-told18 .given .1)))
+    (λ c. rw (c .enum-told18 .given .1))
+    (λ c. rw (c .enum-told19 .given .1))
+    (λ c. rw (c .enum-told20 .given .1))
+    (λ c. rw (c .enum-told21 .given .1)))

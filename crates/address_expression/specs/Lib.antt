@@ -1,0 +1,2 @@
+-- What the contracts of `address_expression` cite.
+pub mod Values

@@ -1,0 +1,2 @@
+-- What the contracts of `assembler` cite besides the definition.
+pub mod Steps
