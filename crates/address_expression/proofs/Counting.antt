@@ -1,7 +1,7 @@
 -- The loop of `number_at`: what is counted, and what its digits come to. Assumes nothing.
-use Prim.Native.Nat.{ℕ, zero, suc, _+_, _*_, _-_, _≤_, _<_}
+use Prim.Native.Nat.{ℕ, suc, _+_, _*_, _-_, _≤_, _<_}
 use mathlib.Core.Path.{_≡_, refl, sym, ap, _∙_}
-use mathlib.Core.Bool.{Bool, true, false, cond}
+use mathlib.Core.Bool.{true, false}
 use mathlib.Core.List.{List, [], _∷_}
 use native.Mathlib.Omega.{arith}
 use native.Mathlib.Nat.{add-zero}
@@ -12,7 +12,6 @@ use lib.Seq.{drop-cons, getD-drop}
 use lib.Dec.{ltb}
 use lib.IntN.{pos}
 use Rattle.address_expression.specs.declared.Value.{Value}
-use Rattle.address_expression.specs.declared.Reading.{Reading}
 use Rattle.address_expression.specs.declared.Reading.the-variants.{Failed, Read}
 use Rattle.definition_assembler.specs.Grammar.{inRange}
 use Rattle.definition_assembler.specs.Reader.{isDigit, digits, numberAt}

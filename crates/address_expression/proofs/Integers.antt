@@ -1,15 +1,14 @@
--- Sums and products by sign and size, and the ways out of the functions that make them. Assumes nothing.
-use Prim.Native.Nat.{ℕ, zero, suc, _+_, _*_, _-_, _≤_, _<_, max}
-use mathlib.Core.Path.{_≡_, refl, sym, ap, ap₂, _∙_}
-use mathlib.Core.Bool.{Bool, true, false, not, cond, _&&_}
+-- Sums and products by sign and magnitude, and the ways out of the functions that make them. Assumes nothing.
+use Prim.Native.Nat.{ℕ, zero, suc, _+_, _*_, _-_, _≤_, _<_}
+use mathlib.Core.Path.{_≡_, refl, sym, ap, _∙_}
+use mathlib.Core.Bool.{Bool, true, false, not, _&&_}
 use native.Mathlib.Omega.{arith}
 use native.Mathlib.Nat.{zero-mul, mul-zero}
 use borrow.Author.Tests.{lt-ltb, le-ltb, not-true, not-false}
-use lib.Dec.{ltb}
-use lib.IntN.{ℤ, pos, negsuc, negℤ, _+ℤ_, _-ℤ_, _*ℤ_, negℤ-negℤ, negℤ-+ℤ, +ℤ-comm}
+use lib.IntN.{ℤ, pos, negℤ, _+ℤ_, _*ℤ_, negℤ-negℤ, negℤ-+ℤ, +ℤ-comm}
 use Rattle.address_expression.specs.declared.Value.{Value}
 use Rattle.definition_assembler.specs.Grammar.{inRange}
-use Rattle.address_expression.specs.Values.{withSign, valueOf, outOfRangeAt, kept, sumOf, differenceOf, productOf, deeper, groupOf}
+use Rattle.address_expression.specs.Values.{withSign, outOfRangeAt, kept}
 
 -- ---- limited
 module _ (a : Bool) (size d : ℕ) where
@@ -99,7 +98,7 @@ unfolding withSign
 times-above true x y = pos-neg x y
 times-above false x y = refl
 
--- ---- the ways out of `total` and `scaled`
+-- ---- the ways out of `add_signed` and `multiply_signed`
 module _ (a b : Bool) (x y d : ℕ) (r : Value) where
   pub sum-below : a ≡ true → b ≡ true → r ≡ kept true (withSign true (x + y)) d → r ≡ kept true (withSign a x +ℤ withSign b y) d
   sum-below e h k = rw (e, h) (k ∙ ap (λ z. kept true z d) (both-below x y))
@@ -125,7 +124,7 @@ module _ (a b : Bool) (x y d : ℕ) (r : Value) where
   pub scaled-above : a ≡ false → r ≡ kept true (withSign b (x * y)) d → r ≡ kept true (withSign a x *ℤ withSign b y) d
   scaled-above e k = rw e (k ∙ ap (λ z. kept true z d) (times-above b x y))
 
--- ---- the ways out of `added`, `subtracted` and `multiplied`: f and g say whether the two fit
+-- ---- the ways out of `add`, `subtract` and `multiply`: f and g say whether the two fit
 module _ (f g : Bool) (z : ℤ) (d m : ℕ) (r : Value) where
   pub first-out : d ≡ m → not f ≡ true → r ≡ outOfRangeAt d → r ≡ kept (f && g) z m
   unfolding kept

@@ -1,5 +1,5 @@
 -- What the code keeps of an address is what its evaluation comes to. Assumes nothing.
-use Prim.Native.Nat.{ℕ, zero, suc, _+_, _*_, _-_, _≤_, _<_, min, max}
+use Prim.Native.Nat.{ℕ, zero, suc, _+_, min, max}
 use mathlib.Core.Path.{_≡_, refl, sym, ap, ap₂, _∙_}
 use mathlib.Core.Bool.{Bool, true, false, cond, _&&_}
 use mathlib.Core.List.{List, [], _∷_}
@@ -16,7 +16,7 @@ use Rattle.address_expression.specs.declared.Found.the-variants.{NoAddre
 use Rattle.definition_assembler.specs.declared.Address.{Address}
 use Rattle.definition_assembler.specs.Grammar.{inRange}
 use Rattle.definition_assembler.specs.Line.{Evaluated, addressOf}
-use Rattle.definition_assembler.specs.Reader.{Actions, Left, Nothing, Plus, Minus, Times, Nonterminal, sumAt, productAt, primaryAt, Parsed, failed, parsed, digits, measure, combined, numberAt, closed, sumOn, productOn, sumAfter, productAfter, parseWithin, parse}
+use Rattle.definition_assembler.specs.Reader.{Left, Nothing, Plus, Minus, Times, Nonterminal, sumAt, productAt, primaryAt, Parsed, failed, parsed, digits, measure, combined, numberAt, closed, sumAfter, productAfter, parseWithin, parse}
 use Rattle.definition_assembler.specs.Assembling.{decimalBytes, numeral, grouped, result, evaluation}
 use Rattle.definition_assembler.proofs.Steps.{cond-has}
 use Rattle.address_expression.specs.Values.{withSign, isNegative, magnitudeOf, valueOf, outOfRangeAt, kept, deeper, sumOf, differenceOf, productOf, groupOf, numberOf, values, readingOf, evaluatedOf, foundOf}

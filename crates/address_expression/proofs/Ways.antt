@@ -1,13 +1,12 @@
 -- The ways out of the three readers, of `close` and of `judge`, in the terms of the code. Assumes nothing.
-use Prim.Native.Nat.{ℕ, zero, suc, _+_, _*_, _-_, _≤_, _<_}
+use Prim.Native.Nat.{ℕ, zero, suc, _+_, _-_, _≤_, _<_}
 use mathlib.Core.Path.{_≡_, refl, sym, ap, _∙_}
-use mathlib.Core.Bool.{Bool, true, false, not, cond, _&&_}
+use mathlib.Core.Bool.{Bool, true, false, not}
 use mathlib.Core.List.{List}
 use native.Mathlib.Omega.{arith}
-use borrow.Author.Tests.{lt-ltb, le-ltb, eq-eqb, ne-eqb, not-true, not-false}
+use borrow.Author.Tests.{lt-ltb, le-ltb, ne-eqb, not-true, not-false}
 use lib.ListN.{length, getD, drop}
-use lib.Dec.{eqb, ltb}
-use lib.IntN.{ℤ, pos, negsuc}
+use lib.IntN.{ℤ}
 use Rattle.address_expression.specs.declared.Value.{Value}
 use Rattle.address_expression.specs.declared.LeftOperand.{LeftOperand}
 use Rattle.address_expression.specs.declared.LeftOperand.the-variants.{BeforePlus, BeforeMinus, BeforeTimes}
@@ -17,7 +16,7 @@ use Rattle.definition_assembler.specs.declared.Address.{Address}
 use Rattle.definition_assembler.specs.declared.Address.the-variants.{AddressRefused, Displacement}
 use Rattle.machine.specs.declared.Refusal.the-variants.{LineDepth, LineValue}
 use Rattle.definition_assembler.specs.Line.{lastInRange, displacement, addressOf}
-use Rattle.definition_assembler.specs.Reader.{Left, Nothing, Nonterminal, sumAt, productAt, primaryAt, Parsed, failed, parsed, digits, combined, numberAt, closed, sumOn, productOn, sumAfter, productAfter, parse}
+use Rattle.definition_assembler.specs.Reader.{Nothing, Nonterminal, sumAt, productAt, primaryAt, Parsed, failed, parsed, digits, combined, numberAt, closed, sumOn, productOn, sumAfter, productAfter, parse}
 use Rattle.address_expression.specs.Values.{withSign, groupOf, values, leftOf, readingOf, parsedOf, Placed}
 use Rattle.definition_assembler.proofs.Steps.{place, Moved, moved, read-is}
 use Rattle.definition_assembler.proofs.Back.{plus-on, minus-on, times-on, product-end, sum-end}

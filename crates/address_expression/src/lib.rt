@@ -1,8 +1,8 @@
 // Addresses of the assembler: numbers, +, -, * and round parentheses, read by three functions that call one another in a cycle.
 ghost use mathlib.Core.Path.{_≡_};
-ghost use mathlib.Core.Bool.{Bool, true, false};
-ghost use Prim.Native.Nat.{_+_, _*_, _≤_, _<_, max};
-ghost use lib.ListN.{length, getD, drop};
+ghost use mathlib.Core.Bool.{true, false};
+ghost use Prim.Native.Nat.{_≤_, max};
+ghost use lib.ListN.{getD, drop};
 ghost use lib.IntN.{ℤ, _+ℤ_, _*ℤ_};
 ghost use Rattle.definition_assembler.specs.Line.{addressOf};
 ghost use Rattle.definition_assembler.specs.Reader.{isDigit, digits, sumAt, productAt, primaryAt, Nothing, parse, combined, numberAt, closed};

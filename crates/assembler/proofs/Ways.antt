@@ -5,9 +5,9 @@ use mathlib.Core.Bool.{Bool, true, false, not, cond, _&&_}
 use mathlib.Core.List.{List}
 use native.Mathlib.Omega.{arith}
 use native.Mathlib.Nat.{add-zero}
-use borrow.Author.Tests.{eq-eqb, ne-eqb, lt-ltb, le-ltb, ltb-true, not-true, not-false, leb-true}
+use borrow.Author.Tests.{eq-eqb, ne-eqb, lt-ltb, le-ltb, ltb-true, not-true, not-false}
 use lib.ListN.{length, getD}
-use lib.Dec.{leb, ltb, eqb}
+use lib.Dec.{ltb, eqb}
 use Rattle.machine.specs.declared.Refusal.{Refusal}
 use Rattle.machine.specs.declared.Refusal.the-variants.{LineGrammar, LineDepth, LineValue}
 use Rattle.address_expression.specs.declared.Found.{Found}
@@ -156,9 +156,9 @@ module _ (t : List ℕ) where
     head-unknown h = rw (← e₁, le-ltb c 58 h)
 
     module _ (h₁ : c < 58) (p : ℕ) (e₂ : p ≡ registerPlace t) (g : Bool) (e₃ : g ≡ registerGood t p) where
-      pub head-unspaced : not g ≡ true → false ≡ headGood t
+      pub head-no-register : not g ≡ true → false ≡ headGood t
       unfolding headGood
-      head-unspaced h = let f : registerGood t (registerPlace t) ≡ false = ap (registerGood t) (sym e₂) ∙ sym e₃ ∙ not-true g h in rw (← e₁, lt-ltb c 58 h₁, f)
+      head-no-register h = let f : registerGood t (registerPlace t) ≡ false = ap (registerGood t) (sym e₂) ∙ sym e₃ ∙ not-true g h in rw (← e₁, lt-ltb c 58 h₁, f)
 
       pub head-index : not g ≡ false → (q : ℕ) → q ≡ indexPlace t → (r : Bool) → r ≡ indexGood t q → r ≡ headGood t
       unfolding headGood
@@ -196,13 +196,13 @@ address-small e =
     (λ k. displacement-small (e .value) (both (e .fits) (lastInRange (e .value)) k .1)) (λ k. omega arith)))
 
 -- ---- places
-pub space-near : (t : List ℕ) → registerPlace t ≤ 3
-space-near t = cond-has (λ x. x ≤ 3) (eqb (byte t 2) 46) 3 2 (λ e. omega arith) (λ e. omega arith)
+pub register-near : (t : List ℕ) → registerPlace t ≤ 3
+register-near t = cond-has (λ x. x ≤ 3) (eqb (byte t 2) 46) 3 2 (λ e. omega arith) (λ e. omega arith)
 
 pub index-near : (t : List ℕ) → indexPlace t ≤ registerPlace t + 5
 index-near t = cond-has (λ x. x ≤ registerPlace t + 5) (eqb (byte t (registerPlace t + 4)) 91) (registerPlace t + 4 + 1) (registerPlace t + 4) (λ e. omega arith) (λ e. omega arith)
 
--- ---- answer
+-- ---- complete
 pub answer-refused : (t : List ℕ) (a : Address) (q : Refusal) → a ≡ AddressRefused q → Refused q ≡ headAnswer t a
 unfolding answerWith
 answer-refused t a q e = rw e

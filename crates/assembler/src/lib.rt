@@ -1,8 +1,7 @@
 // The assembler: a mnemonic, a dot if relative, a register, an index, an address; the last two in square brackets if indirect.
 ghost use mathlib.Core.Path.{_≡_};
-ghost use mathlib.Core.Bool.{Bool, true, false, cond, _&&_};
-ghost use Prim.Native.Nat.{_+_, _*_, _-_, _≤_, _<_};
-ghost use lib.ListN.{length, getD};
+ghost use mathlib.Core.Bool.{cond, _&&_};
+ghost use Prim.Native.Nat.{_+_, _-_, _≤_, _<_};
 ghost use lib.Dec.{eqb};
 ghost use Rattle.definition_assembler.specs.Line.{fields, wordOf};
 ghost use Rattle.definition_assembler.specs.Head.{codeOf, byte, past, isRegister, isIndex, registerGood, indexGood, indexOf, pastIndex, headGood};

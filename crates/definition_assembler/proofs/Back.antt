@@ -1,8 +1,8 @@
--- The reader reads back what a tree is written with: its meaning, and the place after it. Assumes nothing.
-use Prim.Native.Nat.{ℕ, zero, suc, _+_, _*_, _-_, _≤_, _<_}
+-- The reader reads back what a tree is written with: what the actions give for it, and the place after it. Assumes nothing.
+use Prim.Native.Nat.{ℕ, _+_, _<_}
 use mathlib.Core.Path.{_≡_, refl, sym, ap, ap₂, _∙_}
-use mathlib.Core.Bool.{Bool, true, false, cond}
-use mathlib.Core.List.{List, [], _∷_, _++_, append-assoc, append-nil}
+use mathlib.Core.Bool.{true, false}
+use mathlib.Core.List.{List, [], _∷_, _++_, append-assoc}
 use native.Mathlib.Omega.{arith}
 use native.Mathlib.Nat.{add-zero}
 use native.Mathlib.Numerals.{add-one}
@@ -11,7 +11,7 @@ use lib.ListN.{length, getD, drop, length-append}
 use lib.Seq.{drop-cons, drop-drop, drop-append-seam, getD-drop}
 use lib.Dec.{eqb}
 use Rattle.definition_assembler.specs.Grammar.{Digit, Sum, Product, Primary, term, plus, minus, factor, times, number, group, digitByte, digitBytes, sumBytes, productBytes, primaryBytes}
-use Rattle.definition_assembler.specs.Reader.{Actions, Left, Nothing, Plus, Minus, Times, Nonterminal, sumAt, productAt, primaryAt, Parsed, failed, parsed, isDigit, digits, combined, numberAt, closed, sumOn, productOn, sumAfter, productAfter, parse, ofSum, ofProduct, ofPrimary}
+use Rattle.definition_assembler.specs.Reader.{Actions, Left, Nothing, Plus, Minus, Times, Nonterminal, sumAt, productAt, primaryAt, Parsed, parsed, isDigit, combined, numberAt, closed, sumOn, productOn, sumAfter, productAfter, parse, ofSum, ofProduct, ofPrimary}
 use Rattle.definition_assembler.proofs.Steps.{inside-eq, read-is}
 use Rattle.definition_assembler.proofs.Digits.{digits-back, digit-no-group}
 

@@ -1,7 +1,7 @@
 -- The claims of specs/Claims.antt. Assumes nothing.
-use Prim.Native.Nat.{ℕ, zero, suc, _+_, _*_, _/_, _%_, _≤_, _<_}
+use Prim.Native.Nat.{ℕ, zero, suc, _+_, _/_, _%_, _≤_, _<_}
 use mathlib.Core.Path.{_≡_, refl, sym, ap, _∙_}
-use mathlib.Core.Bool.{Bool, true, false, cond, _&&_}
+use mathlib.Core.Bool.{Bool, true, false, _&&_}
 use mathlib.Core.Logic.{_⊎_, inl, inr}
 use mathlib.Core.List.{List, [], _∷_, _++_}
 use native.Mathlib.Omega.{arith}
@@ -13,9 +13,8 @@ use Rattle.machine.specs.Answers.{refusalNumber}
 use Rattle.machine.specs.Format.{instructionFields}
 use Rattle.definition_assembler.specs.declared.Assembled.{Assembled}
 use Rattle.definition_assembler.specs.declared.Assembled.the-variants.{Refused, Word}
-use Rattle.definition_assembler.specs.Letters.{firstLetter, secondLetter}
-use Rattle.definition_assembler.specs.Grammar.{Digit, Sum, Product, Primary, term, plus, minus, factor, times, number, group, digitByte, digitBytes, sumBytes, productBytes, primaryBytes, sumDepth, sumInRange, sumValue}
-use Rattle.definition_assembler.specs.Line.{Line, when, indexBytes, lineBytes, treeEvaluated, lastInRange, displacement, addressOf, wordOf, answerWith, lineAnswer}
+use Rattle.definition_assembler.specs.Grammar.{Digit, Sum, Product, Primary, term, plus, minus, factor, times, number, group, digitBytes, sumBytes, productBytes, primaryBytes, sumDepth, sumInRange, sumValue}
+use Rattle.definition_assembler.specs.Line.{Line, when, indexBytes, lineBytes, treeEvaluated, lastInRange, addressOf, wordOf, answerWith, lineAnswer}
 use Rattle.definition_assembler.specs.Assembling.{assembled}
 use Rattle.definition_assembler.specs.Claims.{Reads, OutsideGrammar, TooDeep, OutOfRange, lineFields, LineWord, EveryWord, Characters, LineCharacters}
 use Rattle.definition_assembler.proofs.Parts.{both, letters-there}

@@ -1,8 +1,8 @@
 -- Lines: what is written is read back, and what is read was written. Assumes nothing.
-use Prim.Native.Nat.{ℕ, zero, suc, _+_, _*_, _-_, _≤_, _<_, max}
+use Prim.Native.Nat.{ℕ, zero, suc, _+_, _*_, _-_, _≤_, _<_}
 use mathlib.Core.Path.{_≡_, refl, sym, ap, ap₂, _∙_}
 use mathlib.Core.HLevel.{isProp→PathP}
-use mathlib.Core.Bool.{Bool, true, false, cond, _&&_}
+use mathlib.Core.Bool.{Bool, true, false, cond}
 use mathlib.Core.List.{List, [], _∷_, _++_}
 use native.Mathlib.Omega.{arith}
 use native.Mathlib.Bridge.{le-prop}
@@ -10,7 +10,7 @@ use borrow.Author.Tests.{eq-eqb, eqb-true, lt-ltb, le-ltb, ltb-true, ltb-false}
 use lib.ListN.{length, getD, drop, length-drop}
 use lib.Seq.{drop-length}
 use lib.Dec.{ltb, eqb}
-use lib.IntN.{pos, _+ℤ_, _-ℤ_, _*ℤ_}
+use lib.IntN.{pos}
 use Rattle.machine.specs.declared.Refusal.the-variants.{LineGrammar}
 use Rattle.definition_assembler.specs.declared.Address.{Address}
 use Rattle.definition_assembler.specs.declared.Assembled.{Assembled}
@@ -19,8 +19,8 @@ use Rattle.definition_assembler.specs.Letters.{firstLetter, secondLetter
 use Rattle.definition_assembler.specs.Grammar.{Digit, Sum, Product, Primary, term, plus, minus, factor, times, number, group, digitByte, digitBytes, decimal, inRange, sumBytes, sumDepth, sumInRange, sumValue, productDepth, productInRange, productValue, primaryDepth, primaryInRange, primaryValue}
 use Rattle.definition_assembler.specs.Line.{Line, when, indexBytes, lineBytes, Evaluated, treeEvaluated, addressOf, answerWith, lineAnswer}
 use Rattle.definition_assembler.specs.Reader.{Nothing, sumAt, Parsed, failed, parsed, parse, ofSum, ofProduct, ofPrimary}
-use Rattle.definition_assembler.specs.Head.{codeOf, byte, past, registerGood, indexGood, indexOf, pastIndex, registerPlace, isIndirect, indexPlace, addressPlace, headGood}
-use Rattle.definition_assembler.specs.Assembling.{decimalBytes, numeral, grouped, result, evaluation, ended, headAnswer, parsedAnswer, assembled}
+use Rattle.definition_assembler.specs.Head.{codeOf, byte, registerGood, indexGood, indexOf, registerPlace, isIndirect, indexPlace, addressPlace, headGood}
+use Rattle.definition_assembler.specs.Assembling.{decimalBytes, numeral, grouped, evaluation, ended, headAnswer, parsedAnswer, assembled}
 use Rattle.definition_assembler.specs.Claims.{Unambiguous, Reads}
 use Rattle.definition_assembler.proofs.Steps.{cond-has, moved}
 use Rattle.definition_assembler.proofs.Back.{front, next, passed, cut, Stops, read-back}

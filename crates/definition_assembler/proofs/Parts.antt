@@ -1,15 +1,14 @@
 -- The parts of a line before its address: what is written is read back, and what is read was written. Assumes nothing.
-use Prim.Native.Nat.{ℕ, zero, suc, _+_, _*_, _-_, _≤_, _<_}
-use mathlib.Core.Path.{_≡_, refl, sym, ap, ap₂, _∙_}
+use Prim.Native.Nat.{ℕ, zero, suc, _+_, _-_, _≤_, _<_}
+use mathlib.Core.Path.{_≡_, refl, sym, ap, _∙_}
 use mathlib.Core.Bool.{Bool, true, false, cond, _&&_}
-use mathlib.Core.List.{List, [], _∷_, _++_, append-assoc}
+use mathlib.Core.List.{List, _∷_, _++_, append-assoc}
 use native.Mathlib.Omega.{arith}
 use native.Mathlib.Decide.{ℕ-discrete}
-use borrow.Author.Tests.{eq-eqb, ne-eqb, eqb-true, le-leb, lt-ltb, leb-true, ltb-true}
-use lib.ListN.{length, getD, drop}
+use borrow.Author.Tests.{eq-eqb, ne-eqb, eqb-true, le-leb, leb-true, ltb-true}
+use lib.ListN.{getD, drop}
 use lib.Dec.{leb, ltb, eqb}
-use Rattle.definition_assembler.specs.Grammar.{Sum, Product, Primary, term, plus, minus, factor, times, number, group, digitByte, digitBytes, sumBytes, productBytes, primaryBytes}
-use Rattle.definition_assembler.proofs.Steps.{cond-has}
+use Rattle.definition_assembler.specs.Grammar.{Sum, Product, Primary, term, plus, minus, factor, times, number, group, digitByte, sumBytes, productBytes, primaryBytes}
 use Rattle.definition_assembler.proofs.Back.{front, next, cut}
 use Rattle.definition_instructions.specs.Codes.{codes, lookup}
 use Rattle.definition_assembler.specs.Letters.{letters, firstLetter, secondLetter}

@@ -1,7 +1,7 @@
--- What the reader accepts is written by a tree whose meaning it gives. Assumes nothing.
-use Prim.Native.Nat.{ℕ, zero, suc, _+_, _-_, _≤_, _<_}
+-- What the reader accepts is written by a tree, for which the actions give what it reads. Assumes nothing.
+use Prim.Native.Nat.{ℕ, zero, suc, _+_}
 use mathlib.Core.Path.{_≡_, refl, sym, ap, ap₂, _∙_}
-use mathlib.Core.Bool.{Bool, true, false, cond}
+use mathlib.Core.Bool.{true}
 use mathlib.Core.List.{List, [], _∷_, _++_, append-assoc}
 use native.Mathlib.Omega.{arith}
 use lib.ListN.{length, getD, drop}
@@ -137,6 +137,6 @@ module _ {A : Type 0} (M : Actions A) (t : List ℕ) where
   unfolding parse
   sound k = within-sound (suc (measure t k)) k
 
-  -- a sum that was read: its tree, its meaning, its bytes
+  -- a sum that was read: its tree, what the actions give for it, its bytes
   pub read-sound : (at n : ℕ) (v : A) → parse M t (sumAt at Nothing) ≡ parsed v n → (s : Sum) × (v ≡ ofSum M s) × (drop at t ≡ sumBytes s ++ drop n t)
   read-sound at n v e = rw e at (sound (sumAt at Nothing) [] refl)

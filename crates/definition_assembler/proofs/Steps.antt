@@ -1,6 +1,6 @@
 -- Laws on the reader: where it stops, and the equation by which it is known. Assumes nothing.
-use Prim.Native.Nat.{ℕ, zero, suc, _+_, _*_, _-_, _≤_, _<_}
-use mathlib.Core.Path.{_≡_, refl, sym, ap, _∙_}
+use Prim.Native.Nat.{ℕ, zero, suc, _+_, _-_, _≤_, _<_}
+use mathlib.Core.Path.{_≡_, refl, ap, _∙_}
 use mathlib.Core.Bool.{Bool, true, false, cond}
 use mathlib.Core.Logic.{_⊎_, inl, inr, ⊎-elim}
 use mathlib.Core.List.{List, [], _∷_}
@@ -8,7 +8,7 @@ use native.Mathlib.Omega.{arith}
 use borrow.Author.Tests.{ltb-true, ltb-false, eqb-true}
 use lib.ListN.{length, getD, drop, length-drop, List·getD-eq-default}
 use lib.Dec.{ltb, eqb}
-use Rattle.definition_assembler.specs.Reader.{Actions, Left, Nothing, Plus, Minus, Times, Nonterminal, sumAt, productAt, primaryAt, Parsed, failed, parsed, isDigit, digits, measure, combined, numberAt, closed, sumOn, productOn, sumAfter, productAfter, step, parseWithin, parse}
+use Rattle.definition_assembler.specs.Reader.{Actions, Left, Nothing, Plus, Minus, Times, Nonterminal, sumAt, productAt, primaryAt, Parsed, failed, parsed, isDigit, digits, measure, combined, numberAt, closed, sumOn, sumAfter, productAfter, step, parseWithin, parse}
 
 -- ---- proofs by cases on a test
 pub tested : (b : Bool) → (b ≡ true) ⊎ (b ≡ false)
@@ -92,7 +92,7 @@ module _ {A : Type 0} (M : Actions A) (t : List ℕ) where
         (λ e. later at (at + 1) (omega arith) (closed M t (m (sumAt (at + 1) Nothing))) (closed-moved (at + 1) (m (sumAt (at + 1) Nothing)) (ok (sumAt (at + 1) Nothing))))
         (λ e. number-moved at (digits (drop at t)) (digits-within at))
 
-    -- two readers that agree on every smaller task agree on this one
+    -- two readers that agree on every smaller nonterminal agree on this one
     module _ (n : Nonterminal A → Parsed A) where
       sum-same : (at : ℕ) (b : Left A) → ((j : Nonterminal A) → measure t j < measure t (sumAt at b) → m j ≡ n j) → (p : Parsed A) → Moved t at p → sumAfter M t m b p ≡ sumAfter M t n b p
       unfolding measure
@@ -139,7 +139,7 @@ module _ {A : Type 0} (M : Actions A) (t : List ℕ) where
   unfolding parse
   moved k = within-moved (suc (measure t k)) k
 
-  -- THE LAW: the reader is its own step
+  -- the reader is its own step
   pub read-is : (k : Nonterminal A) → parse M t k ≡ step M t (λ j. parse M t j) k
   unfolding parse parseWithin
   read-is k =

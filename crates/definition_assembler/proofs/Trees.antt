@@ -1,10 +1,10 @@
 -- Semantic actions that give the tree: what is read is the tree that was written. So no address has two readings. Assumes nothing.
 use mathlib.Core.Path.{_≡_, refl, sym, ap, ap₂, _∙_}
 use Prim.Native.Nat.{ℕ}
-use mathlib.Core.List.{List, [], _++_, append-nil}
+use mathlib.Core.List.{List, _++_}
 use lib.ListN.{getD, drop}
 use Rattle.definition_assembler.specs.Grammar.{Sum, Product, Primary, term, plus, minus, factor, times, number, group, sumBytes}
-use Rattle.definition_assembler.specs.Reader.{Actions, Nothing, sumAt, Parsed, failed, parsed, parse, ofSum, ofProduct, ofPrimary}
+use Rattle.definition_assembler.specs.Reader.{Actions, Parsed, failed, parsed, ofSum, ofProduct, ofPrimary}
 use Rattle.definition_assembler.proofs.Digits.{toDigit, toDigits, digit-of-byte, digits-of-bytes}
 use Rattle.definition_assembler.proofs.Back.{Stops, read-back}
 

@@ -4,7 +4,7 @@
 --   product = primary | product "*" primary
 --   primary = digit {digit} | "(" sum ")"
 -- Assumes nothing.
-use Prim.Native.Nat.{ℕ, zero, suc, _+_, _*_, _<_, max}
+use Prim.Native.Nat.{ℕ, suc, _+_, _*_, _<_, max}
 use mathlib.Core.Bool.{Bool, _&&_}
 use mathlib.Core.List.{List, [], _∷_, _++_}
 use lib.Dec.{ltb}

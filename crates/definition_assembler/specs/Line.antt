@@ -8,7 +8,6 @@ use mathlib.Core.List.{List, [], _∷_, _++_}
 use lib.Dec.{ltb}
 use lib.IntN.{ℤ, pos, negsuc}
 use Rattle.machine.specs.declared.Instruction.{Instruction}
-use Rattle.machine.specs.declared.Refusal.{Refusal}
 use Rattle.machine.specs.declared.Refusal.the-variants.{LineDepth, LineValue}
 use Rattle.definition_assembler.specs.declared.Address.{Address}
 use Rattle.definition_assembler.specs.declared.Address.the-variants.{AddressRefused, Displacement}

@@ -1,4 +1,4 @@
-use Rattle.assembler.proofs.Ways.{space-near, index-near, answer-bounds, answer-refused, answer-word}
+use Rattle.assembler.proofs.Ways.{register-near, index-near, answer-bounds, answer-refused, answer-word}
 use native.Mathlib.Omega.{arith}
 use denote.Ref.{now}
 use borrow.Author.Needs.{needs}
@@ -6,13 +6,13 @@ use Rattle.assembler.proofs.complete.Statement.{statement}
 use Rattle.assembler.proofs.complete.Tie as tie
 
 add-byte-at : tie.Need-add-byte-at
-add-byte-at c = omega (arith, c .before .before .before .before .pre .register, space-near (now (c .before .before .before .before .args .text)))
+add-byte-at c = omega (arith, c .before .before .before .before .pre .register, register-near (now (c .before .before .before .before .args .text)))
 
 add-has : tie.Need-add-has
-add-has c = omega (arith, c .before .before .before .before .before .before .before .pre .register, space-near (now (c .before .before .before .before .before .before .before .args .text)))
+add-has c = omega (arith, c .before .before .before .before .before .before .before .pre .register, register-near (now (c .before .before .before .before .before .before .before .args .text)))
 
 index-of-requires : tie.Need-index-of-requires
-index-of-requires c κs = omega (arith, c .before .before .before .before .before .before .before .before .pre .index, index-near (now (c .before .before .before .before .before .before .before .before .args .text)), space-near (now (c .before .before .before .before .before .before .before .before .args .text)))
+index-of-requires c κs = omega (arith, c .before .before .before .before .before .before .before .before .pre .index, index-near (now (c .before .before .before .before .before .before .before .before .args .text)), register-near (now (c .before .before .before .before .before .before .before .before .args .text)))
 
 word-of-requires : tie.Need-word-of-requires
 word-of-requires c κs =

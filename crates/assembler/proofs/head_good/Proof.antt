@@ -1,4 +1,4 @@
-use Rattle.assembler.proofs.Ways.{head-unknown, head-unspaced, head-index}
+use Rattle.assembler.proofs.Ways.{head-unknown, head-no-register, head-index}
 use Rattle.definition_assembler.specs.Head.{past}
 use mathlib.Core.Path.{ap, _∙_}
 use Prim.Native.Nat.{_+_}
@@ -12,7 +12,7 @@ returns c = head-unknown (now (c .before .before .args .text)) _ (c .before .bef
 
 returns-2 : tie.Need-returns-2
 returns-2 c =
-    head-unspaced (now (c .before .before .before .before .before .args .text)) _ (c .before .before .before .before .before .pre) (c .before .before .before .if1 .left) _ (c .before .before .past-byte .ensures .0) _ (c .before .register-good .ensures) (c .if2 .taken)
+    head-no-register (now (c .before .before .before .before .before .args .text)) _ (c .before .before .before .before .before .pre) (c .before .before .before .if1 .left) _ (c .before .before .past-byte .ensures .0) _ (c .before .register-good .ensures) (c .if2 .taken)
 
 returns-3 : tie.Need-returns-3
 returns-3 c =
