@@ -53,33 +53,33 @@ module _ (t : List ℕ) where
     pub close-not : (b ≡ 41 → ⊥) → Failed ≡ readingOf (closed values t (parsedOf p))
     close-not d = rw (h, ne-eqb (getD t n 0) 41 (λ z. d (q ∙ z)))
 
-  -- ---- the turns of the loops: from place i on, after l, stands what stands from place at on, after e
-  abbrev pub Summing : (at : ℕ) (e : LeftOperand) (i : ℕ) (l : LeftOperand) → Type 0
-  Summing at e i l = (at ≤ i) × (R (sumAt i (leftOf l)) ≡ R (sumAt at (leftOf e)))
+  -- ---- the turns of the loops: from place i on, after l, is read what is read from place at on
+  abbrev pub Summing : (at i : ℕ) (l : LeftOperand) → Type 0
+  Summing at i l = (at ≤ i) × (R (sumAt i (leftOf l)) ≡ R (sumAt at Nothing))
 
-  abbrev pub Multiplying : (at : ℕ) (e : LeftOperand) (i : ℕ) (l : LeftOperand) → Type 0
-  Multiplying at e i l = (at ≤ i) × (R (productAt i (leftOf l)) ≡ R (productAt at (leftOf e)))
+  abbrev pub Multiplying : (at i : ℕ) (l : LeftOperand) → Type 0
+  Multiplying at i l = (at ≤ i) × (R (productAt i (leftOf l)) ≡ R (productAt at Nothing))
 
   -- p is what `product` or `primary` read at i, s what it comes to after l, b the byte after it
-  module _ (at i n b : ℕ) (e l : LeftOperand) (x s : Value) (p : Reading) where
+  module _ (at i n b : ℕ) (l : LeftOperand) (x s : Value) (p : Reading) where
     sum-reached : p ≡ readingOf (R (productAt i Nothing)) → p ≡ Read x n → s ≡ combined values (leftOf l) x → R (sumAt i (leftOf l)) ≡ sumOn values t R s n
     sum-reached k h q =
         read-is values t (sumAt i (leftOf l)) ∙ ap (sumAfter values t R (leftOf l)) (found (R (productAt i Nothing)) p x n k h) ∙ ap (λ v. sumOn values t R v n) (sym q)
 
-    pub sum-plus : (m : LeftOperand) → Summing at e i l → p ≡ readingOf (R (productAt i Nothing)) → p ≡ Read x n → s ≡ combined values (leftOf l) x → b ≡ getD t n 0 → b ≡ 43
-        → m ≡ BeforePlus s → Summing at e (n + 1) m
+    pub sum-plus : (m : LeftOperand) → Summing at i l → p ≡ readingOf (R (productAt i Nothing)) → p ≡ Read x n → s ≡ combined values (leftOf l) x → b ≡ getD t n 0 → b ≡ 43
+        → m ≡ BeforePlus s → Summing at (n + 1) m
     sum-plus m w k h q g d u =
         let y = moved-to (productAt i Nothing) p x n k h in
         (omega arith, ap (λ v. R (sumAt (n + 1) (leftOf v))) u ∙ sym (sum-reached k h q ∙ plus-on values t s n (sym g ∙ d)) ∙ w .1)
 
-    pub sum-minus : (m : LeftOperand) → Summing at e i l → p ≡ readingOf (R (productAt i Nothing)) → p ≡ Read x n → s ≡ combined values (leftOf l) x → b ≡ getD t n 0 → b ≡ 45
-        → m ≡ BeforeMinus s → Summing at e (n + 1) m
+    pub sum-minus : (m : LeftOperand) → Summing at i l → p ≡ readingOf (R (productAt i Nothing)) → p ≡ Read x n → s ≡ combined values (leftOf l) x → b ≡ getD t n 0 → b ≡ 45
+        → m ≡ BeforeMinus s → Summing at (n + 1) m
     sum-minus m w k h q g d u =
         let y = moved-to (productAt i Nothing) p x n k h in
         (omega arith, ap (λ v. R (sumAt (n + 1) (leftOf v))) u ∙ sym (sum-reached k h q ∙ minus-on values t s n (sym g ∙ d)) ∙ w .1)
 
-    pub sum-ends : Summing at e i l → p ≡ readingOf (R (productAt i Nothing)) → p ≡ Read x n → s ≡ combined values (leftOf l) x → b ≡ getD t n 0 → (b ≡ 43 → ⊥) → (b ≡ 45 → ⊥)
-        → Read s n ≡ readingOf (R (sumAt at (leftOf e)))
+    pub sum-ends : Summing at i l → p ≡ readingOf (R (productAt i Nothing)) → p ≡ Read x n → s ≡ combined values (leftOf l) x → b ≡ getD t n 0 → (b ≡ 43 → ⊥) → (b ≡ 45 → ⊥)
+        → Read s n ≡ readingOf (R (sumAt at Nothing))
     sum-ends w k h q g d f =
         ap readingOf (sym (sum-reached k h q ∙ sum-end values t s n (ne-eqb (getD t n 0) 43 (λ z. d (g ∙ z))) (ne-eqb (getD t n 0) 45 (λ z. f (g ∙ z)))) ∙ w .1)
 
@@ -87,20 +87,20 @@ module _ (t : List ℕ) where
     product-reached k h q =
         read-is values t (productAt i (leftOf l)) ∙ ap (productAfter values t R (leftOf l)) (found (R (primaryAt i)) p x n k h) ∙ ap (λ v. productOn values t R v n) (sym q)
 
-    pub product-times : Multiplying at e i l → p ≡ readingOf (R (primaryAt i)) → p ≡ Read x n → s ≡ combined values (leftOf l) x → b ≡ getD t n 0 → b ≡ 42
-        → Multiplying at e (n + 1) (BeforeTimes s)
+    pub product-times : Multiplying at i l → p ≡ readingOf (R (primaryAt i)) → p ≡ Read x n → s ≡ combined values (leftOf l) x → b ≡ getD t n 0 → b ≡ 42
+        → Multiplying at (n + 1) (BeforeTimes s)
     product-times w k h q g d =
         let y = moved-to (primaryAt i) p x n k h in (omega arith, sym (product-reached k h q ∙ times-on values t s n (sym g ∙ d)) ∙ w .1)
 
-    pub product-ends : Multiplying at e i l → p ≡ readingOf (R (primaryAt i)) → p ≡ Read x n → s ≡ combined values (leftOf l) x → b ≡ getD t n 0 → (b ≡ 42 → ⊥)
-        → Read s n ≡ readingOf (R (productAt at (leftOf e)))
+    pub product-ends : Multiplying at i l → p ≡ readingOf (R (primaryAt i)) → p ≡ Read x n → s ≡ combined values (leftOf l) x → b ≡ getD t n 0 → (b ≡ 42 → ⊥)
+        → Read s n ≡ readingOf (R (productAt at Nothing))
     product-ends w k h q g d = ap readingOf (sym (product-reached k h q ∙ product-end values t s n (ne-eqb (getD t n 0) 42 (λ z. d (g ∙ z)))) ∙ w .1)
 
-  module _ (at i : ℕ) (e l : LeftOperand) (p : Reading) where
-    pub sum-wrong : Summing at e i l → p ≡ readingOf (R (productAt i Nothing)) → p ≡ Failed → Failed ≡ readingOf (R (sumAt at (leftOf e)))
+  module _ (at i : ℕ) (l : LeftOperand) (p : Reading) where
+    pub sum-wrong : Summing at i l → p ≡ readingOf (R (productAt i Nothing)) → p ≡ Failed → Failed ≡ readingOf (R (sumAt at Nothing))
     sum-wrong w k h = ap readingOf (sym (read-is values t (sumAt i (leftOf l)) ∙ ap (sumAfter values t R (leftOf l)) (wrong (R (productAt i Nothing)) p k h)) ∙ w .1)
 
-    pub product-wrong : Multiplying at e i l → p ≡ readingOf (R (primaryAt i)) → p ≡ Failed → Failed ≡ readingOf (R (productAt at (leftOf e)))
+    pub product-wrong : Multiplying at i l → p ≡ readingOf (R (primaryAt i)) → p ≡ Failed → Failed ≡ readingOf (R (productAt at Nothing))
     product-wrong w k h = ap readingOf (sym (read-is values t (productAt i (leftOf l)) ∙ ap (productAfter values t R (leftOf l)) (wrong (R (primaryAt i)) p k h)) ∙ w .1)
 
   -- ---- primary: b is the byte at its place

@@ -11,7 +11,7 @@ ghost use Rattle.address_expression.specs.Values.{withSign, kept, outOfR
 use definition_assembler::Address;
 use machine::Refusal;
 
-// A value while it is in range, by sign and magnitude; whether every value was in range; the depth of the parentheses, 17 for more.
+// A value while it is in range, by sign and magnitude; whether every value was in range; the depth of the parentheses, 17 for every depth over 16.
 pub struct Value {
     pub fits: bool,
     pub negative: bool,
@@ -253,14 +253,14 @@ fn close(text: &[u8], p: Reading) -> Reading
     }
 }
 
-// A sum from `at` on, after the left operand e.
-fn sum(text: &[u8], at: usize, e: LeftOperand) -> Reading
-    ensures { λ r. ⌜ r ≡ readingOf (parse values (now (text .entry)) (sumAt at (leftOf e))) ⌝ }
+// A sum from `at` on.
+fn sum(text: &[u8], at: usize) -> Reading
+    ensures { λ r. ⌜ r ≡ readingOf (parse values (now (text .entry)) (sumAt at Nothing)) ⌝ }
 {
     let mut i = at;
-    let mut l = e;
+    let mut l = LeftOperand::NoOperand;
     loop {
-        let p = product(text, i, LeftOperand::NoOperand);
+        let p = product(text, i);
         match p {
             Reading::Read(x, n) => {
                 let s = combine(l, x);
@@ -281,12 +281,12 @@ fn sum(text: &[u8], at: usize, e: LeftOperand) -> Reading
     }
 }
 
-// A product from `at` on, after the left operand e.
-fn product(text: &[u8], at: usize, e: LeftOperand) -> Reading
-    ensures { λ r. ⌜ r ≡ readingOf (parse values (now (text .entry)) (productAt at (leftOf e))) ⌝ }
+// A product from `at` on.
+fn product(text: &[u8], at: usize) -> Reading
+    ensures { λ r. ⌜ r ≡ readingOf (parse values (now (text .entry)) (productAt at Nothing)) ⌝ }
 {
     let mut i = at;
-    let mut l = e;
+    let mut l = LeftOperand::NoOperand;
     loop {
         let p = primary(text, i);
         match p {
@@ -311,7 +311,7 @@ fn primary(text: &[u8], at: usize) -> Reading
     ensures { λ r. ⌜ r ≡ readingOf (parse values (now (text .entry)) (primaryAt at)) ⌝ }
 {
     if byte_at(text, at) == b'(' {
-        close(text, sum(text, at + 1, LeftOperand::NoOperand))
+        close(text, sum(text, at + 1))
     } else {
         number_at(text, at)
     }
@@ -345,7 +345,7 @@ fn judge(x: Value) -> Address
 pub fn address_at(text: &[u8], at: usize) -> Found
     ensures { λ r. ⌜ r ≡ foundOf (parse evaluation (now (text .entry)) (sumAt at Nothing)) ⌝ }
 {
-    let p = sum(text, at, LeftOperand::NoOperand);
+    let p = sum(text, at);
     match p {
         Reading::Read(x, n) => Found::AddressTo(judge(x), n),
         Reading::Failed => Found::NoAddress,

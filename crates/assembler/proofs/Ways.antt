@@ -21,7 +21,7 @@ use Rattle.definition_assembler.specs.Letters.{firstLetter, secondLetter}
 use Rattle.definition_assembler.specs.Line.{Evaluated, lastInRange, displacement, addressOf, wordOf, fields, answerWith}
 use Rattle.definition_assembler.specs.Reader.{Nothing, sumAt, Parsed, failed, parsed, parse}
 use Rattle.definition_assembler.specs.Head.{codeFrom, codeOf, byte, past, pastIndex, isRegister, isIndex, registerGood, indexGood, indexOf, registerPlace, isIndirect, indexPlace, addressPlace, headGood}
-use Rattle.definition_assembler.specs.Assembling.{evaluation, ended, headAnswer, parsedAnswer, assembled}
+use Rattle.definition_assembler.specs.Assembling.{evaluation, ended, headAnswer, parsedAnswer, assembling}
 use Rattle.definition_assembler.proofs.Steps.{cond-has}
 use Rattle.definition_assembler.proofs.Parts.{both, register-sound, index-sound}
 use Rattle.definition_assembler.proofs.Words.{displacement-small}
@@ -232,8 +232,8 @@ module _ (t : List ℕ) (c p q : ℕ) (a : Address) (d : ℕ) (s : Tested t c p 
       ap Word er ∙ answer-same _ _ _ _ _ _ _ _ _ _ (Displacement d) a (s .operation) w-is ef (eg ∙ ap (λ n. eqb (byte t (n + 4)) 91) (s .register)) x-is (sym e)
 
 -- ---- assemble
-pub line-long : (t : List ℕ) → 255 < length t → Refused LineGrammar ≡ assembled t
-unfolding assembled
+pub line-long : (t : List ℕ) → 255 < length t → Refused LineGrammar ≡ assembling t
+unfolding assembling
 line-long t h = rw (lt-ltb 255 (length t) h)
 
 parsed-from : (p : Parsed Evaluated) (f : Found) → f ≡ foundOf p → f ≡ NoAddress → p ≡ failed
@@ -267,8 +267,8 @@ parsed-to (parsed v m) f a n e h = (v, ap (parsed v) (ap place (sym e ∙ h)), a
     address (AddressTo b k) = b
 
 module _ (t : List ℕ) (h : length t ≤ 255) (c : ℕ) (ec : c ≡ codeOf (byte t 0) (byte t 1)) (g : Bool) (eg : g ≡ headGood t) where
-  pub line-no-head : not g ≡ true → Refused LineGrammar ≡ assembled t
-  unfolding assembled
+  pub line-no-head : not g ≡ true → Refused LineGrammar ≡ assembling t
+  unfolding assembling
   line-no-head k = rw (le-ltb 255 (length t) h, sym eg ∙ not-true g k)
 
   module _ (k : not g ≡ false) (p q at : ℕ) (ep : p ≡ registerPlace t) (eq : q ≡ past t (p + 4) 91) (ea : at ≡ pastIndex t q) (s : Found) (es : s ≡ foundOf (parse evaluation t (sumAt at Nothing))) where
@@ -279,26 +279,26 @@ module _ (t : List ℕ) (h : length t ≤ 255) (c : ℕ) (ec : c ≡ codeOf (byt
     unfolding addressPlace
     read-at = ap (λ n. parse evaluation t (sumAt n Nothing)) (ea ∙ ap (pastIndex t) q-is)
 
-    started : assembled t ≡ parsedAnswer t (parse evaluation t (sumAt at Nothing))
-    unfolding assembled
+    started : assembling t ≡ parsedAnswer t (parse evaluation t (sumAt at Nothing))
+    unfolding assembling
     started = rw (le-ltb 255 (length t) h, sym eg ∙ not-false g k, read-at)
 
-    pub line-wrong : s ≡ NoAddress → Refused LineGrammar ≡ assembled t
+    pub line-wrong : s ≡ NoAddress → Refused LineGrammar ≡ assembling t
     line-wrong e = sym (started ∙ ap (parsedAnswer t) (parsed-from (parse evaluation t (sumAt at Nothing)) s es e))
 
     module _ (a : Address) (n : ℕ) (e : s ≡ AddressTo a n) (i z : Bool) (ei : i ≡ eqb (byte t (p + 4)) 91) (ez : z ≡ ended t i n) where
       end-is : z ≡ ended t (isIndirect t) n
       end-is = ez ∙ ap (λ b. ended t b n) (ei ∙ ap (λ m. eqb (byte t (m + 4)) 91) ep)
 
-      read-on : assembled t ≡ cond z (headAnswer t a) (Refused LineGrammar)
+      read-on : assembling t ≡ cond z (headAnswer t a) (Refused LineGrammar)
       read-on =
           let v = parsed-to (parse evaluation t (sumAt at Nothing)) s a n es e in
           started ∙ ap (parsedAnswer t) (v .1) ∙ ap₂ (λ b c. cond b (headAnswer t c) (Refused LineGrammar)) (sym end-is) (sym (v .2))
 
-      pub line-rest : z ≡ false → Refused LineGrammar ≡ assembled t
+      pub line-rest : z ≡ false → Refused LineGrammar ≡ assembling t
       line-rest f = sym (read-on ∙ ap (λ b. cond b (headAnswer t a) (Refused LineGrammar)) f)
 
-      pub line-read : z ≡ true → (r : Assembled) → r ≡ headAnswer t a → r ≡ assembled t
+      pub line-read : z ≡ true → (r : Assembled) → r ≡ headAnswer t a → r ≡ assembling t
       line-read f r er = er ∙ sym (read-on ∙ ap (λ b. cond b (headAnswer t a) (Refused LineGrammar)) f)
 
     pub line-tested : (a : Address) (n : ℕ) → s ≡ AddressTo a n → Tested t c p q a

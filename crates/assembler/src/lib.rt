@@ -5,7 +5,7 @@ ghost use Prim.Native.Nat.{_+_, _-_, _≤_, _<_};
 ghost use lib.Dec.{eqb};
 ghost use Rattle.definition_assembler.specs.Line.{fields, wordOf};
 ghost use Rattle.definition_assembler.specs.Head.{codeOf, byte, past, isRegister, isIndex, registerGood, indexGood, indexOf, pastIndex, headGood};
-ghost use Rattle.definition_assembler.specs.Assembling.{ended, headAnswer, assembled};
+ghost use Rattle.definition_assembler.specs.Assembling.{ended, headAnswer, assembling};
 ghost use Rattle.assembler.specs.Steps.{letterTable, Tested};
 use address_expression::Found;
 use definition_assembler::Address;
@@ -18,7 +18,7 @@ fn has(text: &[u8], at: usize, b: u8) -> bool
     address_expression::byte_at(text, at) == b
 }
 
-// The place after a byte that may stand there.
+// The place after a byte that may stand there. The places before an address are below 20; 1000 is far from overflow.
 fn past_byte(text: &[u8], at: usize, b: u8) -> usize
     requires { ⌜ at < 1000 ⌝ }
     ensures place { λ r. ⌜ r ≡ past (now (text .entry)) at b ⌝ }
@@ -193,7 +193,7 @@ fn complete(text: &[u8], code: u32, p: usize, q: usize, a: Address) -> Assembled
     ensures { λ r. ⌜ r ≡ headAnswer (now (text .entry)) a ⌝ }
 {
     match a {
-        Address::AddressRefused(q) => Assembled::Refused(q),
+        Address::AddressRefused(refusal) => Assembled::Refused(refusal),
         Address::Displacement(d) => {
             let w = digit(address_expression::byte_at(text, p + 2));
             let relative = has(text, 2, b'.');
@@ -206,7 +206,7 @@ fn complete(text: &[u8], code: u32, p: usize, q: usize, a: Address) -> Assembled
 
 // The word of a line, or its refusal: 19 outside the grammar or over 255 characters, 20 too deep, 21 a value out of range.
 pub fn assemble(text: &[u8]) -> Assembled
-    ensures { λ r. ⌜ r ≡ assembled (now (text .entry)) ⌝ }
+    ensures { λ r. ⌜ r ≡ assembling (now (text .entry)) ⌝ }
 {
     if 255 < text.len() {
         return Assembled::Refused(Refusal::LineGrammar);

@@ -23,7 +23,7 @@ use Rattle.definition_tape.specs.Load.{Loaded, loading, overlaying}
 use Rattle.definition_tape.specs.Writing.{remarkOf, remarkFits, writing}
 use Rattle.writer_promises.specs.Claims.{tapeSize}
 use Rattle.definition_assembler.specs.declared.Assembled.the-variants.{Refused, Word}
-use Rattle.definition_assembler.specs.Assembling.{assembled}
+use Rattle.definition_assembler.specs.Assembling.{assembling}
 use Rattle.capi_records.specs.declared.ControlRecord.{ControlRecord}
 use Rattle.capi_records.specs.declared.CallResult.{CallResult}
 use Rattle.capi_records.specs.declared.StateResult.{StateResult}
@@ -188,5 +188,5 @@ RefusedAsGiven =
 abbrev pub AssembleCalls : Type 0
 AssembleCalls =
     (t : List ℕ)
-    → ((v : ℕ) → assembled t ≡ Word v → assembleCall t ≡ record { refusal = 0; word = v })
-    × ((q : Refusal) → assembled t ≡ Refused q → assembleCall t ≡ record { refusal = refusalNumber q; word = 0 })
+    → ((v : ℕ) → assembling t ≡ Word v → assembleCall t ≡ record { refusal = 0; word = v })
+    × ((q : Refusal) → assembling t ≡ Refused q → assembleCall t ≡ record { refusal = refusalNumber q; word = 0 })

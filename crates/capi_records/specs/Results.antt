@@ -36,7 +36,7 @@ use Rattle.capi_records.specs.declared.AutoloadResult.{AutoloadResult}
 use Rattle.capi_records.specs.declared.TextResult.{TextResult}
 use Rattle.definition_assembler.specs.declared.Assembled.{Assembled}
 use Rattle.definition_assembler.specs.declared.Assembled.the-variants as Assembled
-use Rattle.definition_assembler.specs.Assembling.{assembled}
+use Rattle.definition_assembler.specs.Assembling.{assembling}
 use Rattle.capi_records.specs.declared.WriteResult.{WriteResult}
 use Rattle.capi_records.specs.declared.AssembleResult.{AssembleResult}
 
@@ -235,4 +235,4 @@ assembleResult (Assembled.Refused q) = record { refusal = refusalNumber q; word 
 assembleResult (Assembled.Word v) = record { refusal = 0; word = v }
 
 unfoldable pub assembleCall : List ℕ → AssembleResult
-assembleCall t = assembleResult (assembled t)
+assembleCall t = assembleResult (assembling t)

@@ -15,7 +15,7 @@ use Rattle.definition_assembler.specs.declared.Assembled.{Assembled}
 use Rattle.definition_assembler.specs.declared.Assembled.the-variants.{Refused, Word}
 use Rattle.definition_assembler.specs.Grammar.{Digit, Sum, Product, Primary, term, plus, minus, factor, times, number, group, digitBytes, sumBytes, productBytes, primaryBytes, sumDepth, sumInRange, sumValue}
 use Rattle.definition_assembler.specs.Line.{Line, when, indexBytes, lineBytes, treeEvaluated, lastInRange, addressOf, wordOf, answerWith, lineAnswer}
-use Rattle.definition_assembler.specs.Assembling.{assembled}
+use Rattle.definition_assembler.specs.Assembling.{assembling}
 use Rattle.definition_assembler.specs.Claims.{Reads, OutsideGrammar, TooDeep, OutOfRange, lineFields, LineWord, EveryWord, Characters, LineCharacters}
 use Rattle.definition_assembler.proofs.Parts.{both, letters-there}
 use Rattle.definition_assembler.proofs.Lines.{inside, Judged, no-line, a-line, judged, long}
@@ -75,26 +75,26 @@ is-word l v _ (fine h f) e = (h, f, ap word-of e)
 pub outside-grammar : OutsideGrammar
 outside-grammar t = (there, back)
   where
-    there : assembled t ≡ Refused LineGrammar → (255 < length t) ⊎ ((l : Line) → t ≡ lineBytes l → ⊥)
+    there : assembling t ≡ Refused LineGrammar → (255 < length t) ⊎ ((l : Line) → t ≡ lineBytes l → ⊥)
     there e = at (ltb 255 (length t)) refl
       where
         at : (b : Bool) → ltb 255 (length t) ≡ b → (255 < length t) ⊎ ((l : Line) → t ≡ lineBytes l → ⊥)
         at true d = inl (ltb-true 255 (length t) d)
         at false d = inr (λ l h. not-grammar l (lineAnswer l) (answers l) (sym (inside t l (h, ltb-false 255 (length t) d)) ∙ e))
 
-    from : Judged t (assembled t) → ((l : Line) → t ≡ lineBytes l → ⊥) → assembled t ≡ Refused LineGrammar
+    from : Judged t (assembling t) → ((l : Line) → t ≡ lineBytes l → ⊥) → assembling t ≡ Refused LineGrammar
     from (no-line e) none = e
     from (a-line l r) none = absurd (none l (r .0))
 
-    back : (255 < length t) ⊎ ((l : Line) → t ≡ lineBytes l → ⊥) → assembled t ≡ Refused LineGrammar
+    back : (255 < length t) ⊎ ((l : Line) → t ≡ lineBytes l → ⊥) → assembling t ≡ Refused LineGrammar
     back (inl h) = long t h
     back (inr none) = from (judged t) none
 
 -- ---- 20, 21 and the word: the text is a line
-line-for : (t : List ℕ) (a : Assembled) → assembled t ≡ a → (number-of a ≡ 19 → ⊥) → (l : Line) × Reads t l × (lineAnswer l ≡ a)
+line-for : (t : List ℕ) (a : Assembled) → assembling t ≡ a → (number-of a ≡ 19 → ⊥) → (l : Line) × Reads t l × (lineAnswer l ≡ a)
 line-for t a e other = from (judged t)
   where
-    from : Judged t (assembled t) → (l : Line) × Reads t l × (lineAnswer l ≡ a)
+    from : Judged t (assembling t) → (l : Line) × Reads t l × (lineAnswer l ≡ a)
     from (no-line f) = absurd (other (ap number-of (sym e ∙ f)))
     from (a-line l r) = (l, r, sym (inside t l r) ∙ e)
 

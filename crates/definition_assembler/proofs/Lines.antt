@@ -20,7 +20,7 @@ use Rattle.definition_assembler.specs.Grammar.{Digit, Sum, Product, Prim
 use Rattle.definition_assembler.specs.Line.{Line, when, indexBytes, lineBytes, Evaluated, treeEvaluated, addressOf, answerWith, lineAnswer}
 use Rattle.definition_assembler.specs.Reader.{Nothing, sumAt, Parsed, failed, parsed, parse, ofSum, ofProduct, ofPrimary}
 use Rattle.definition_assembler.specs.Head.{codeOf, byte, registerGood, indexGood, indexOf, registerPlace, isIndirect, indexPlace, addressPlace, headGood}
-use Rattle.definition_assembler.specs.Assembling.{decimalBytes, numeral, grouped, evaluation, ended, headAnswer, parsedAnswer, assembled}
+use Rattle.definition_assembler.specs.Assembling.{decimalBytes, numeral, grouped, evaluation, ended, headAnswer, parsedAnswer, assembling}
 use Rattle.definition_assembler.specs.Claims.{Unambiguous, Reads}
 use Rattle.definition_assembler.proofs.Steps.{cond-has, moved}
 use Rattle.definition_assembler.proofs.Back.{front, next, passed, cut, Stops, read-back}
@@ -149,8 +149,8 @@ answer-same : (c c′ w w′ : ℕ) (r r′ i i′ : Bool) (x x′ : ℕ) (a a�
 answer-same c c′ w w′ r r′ i i′ x x′ a a′ e f g h k m = λ j. answerWith (e j) (f j) (g j) (h j) (k j) (m j)
 
 -- a line of at most 255 characters has the answer of its tree
-pub inside : (t : List ℕ) (l : Line) → Reads t l → assembled t ≡ lineAnswer l
-unfolding assembled headGood lineAnswer
+pub inside : (t : List ℕ) (l : Line) → Reads t l → assembling t ≡ lineAnswer l
+unfolding assembling headGood lineAnswer
 inside t l (e, h) =
     let a = written l t e in
     let s = l .address in
@@ -220,8 +220,8 @@ parsed-line t k g (parsed v n) e =
     (λ d. let l = line-of t v n g e d in a-line (l .0) (l .1, k))
     (λ d. no-line refl)
 
-pub judged : (t : List ℕ) → Judged t (assembled t)
-unfolding assembled
+pub judged : (t : List ℕ) → Judged t (assembling t)
+unfolding assembling
 judged t =
     cond-has (Judged t) (ltb 255 (length t)) _ _
     (λ d. no-line refl)
@@ -230,6 +230,6 @@ judged t =
     (λ g. parsed-line t (ltb-false 255 (length t) d) g (parse evaluation t (sumAt (addressPlace t) Nothing)) refl)
     (λ g. no-line refl))
 
-pub long : (t : List ℕ) → 255 < length t → assembled t ≡ Refused LineGrammar
-unfolding assembled
+pub long : (t : List ℕ) → 255 < length t → assembling t ≡ Refused LineGrammar
+unfolding assembling
 long t h = rw (lt-ltb 255 (length t) h)

@@ -55,7 +55,7 @@ abbrev pub parsedAnswer : List ℕ → Parsed Evaluated → Assembled
 parsedAnswer t failed = Refused LineGrammar
 parsedAnswer t (parsed v n) = cond (ended t (isIndirect t) n) (headAnswer t (addressOf v)) (Refused LineGrammar)
 
-unfoldable pub assembled : List ℕ → Assembled
-assembled t =
+unfoldable pub assembling : List ℕ → Assembled
+assembling t =
     cond (ltb 255 (length t)) (Refused LineGrammar)
     (cond (headGood t) (parsedAnswer t (parse evaluation t (sumAt (addressPlace t) Nothing))) (Refused LineGrammar))

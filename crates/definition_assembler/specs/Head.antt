@@ -6,11 +6,12 @@ use lib.ListN.{getD}
 use lib.Dec.{leb, ltb, eqb}
 use Rattle.definition_assembler.specs.Letters.{ascii, firstLetter, secondLetter}
 
--- the code of two letters, 58 for none: n codes from i on are left
+-- the first of n codes from i on that has the letters a and b, i + n for none
 unfoldable pub codeFrom : ℕ → ℕ → ℕ → ℕ → ℕ
 codeFrom zero i a b = i
 codeFrom (suc n) i a b = cond (eqb a (firstLetter i) && eqb b (secondLetter i)) i (codeFrom n (i + 1) a b)
 
+-- the code of two letters, 58 for none
 unfoldable pub codeOf : ℕ → ℕ → ℕ
 codeOf a b = codeFrom 58 0 a b
 

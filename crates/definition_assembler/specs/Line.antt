@@ -58,7 +58,7 @@ unfoldable pub lastInRange : ℤ → Bool
 lastInRange (pos n) = ltb n 2048
 lastInRange (negsuc n) = ltb n 2048
 
--- D mod 4096
+-- D mod 4096, for a last value in range
 unfoldable pub displacement : ℤ → ℕ
 displacement (pos n) = n
 displacement (negsuc n) = 4095 - n

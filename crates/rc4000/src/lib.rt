@@ -8,7 +8,7 @@ ghost use Rattle.run_promises.specs.Promises.{KeepsProtected, TouchesNoDevice, 
 ghost use Rattle.definition_tape.specs.Load.{loading, overlaying};
 ghost use Rattle.definition_tape.specs.Remark.{remarkSpan, remarkText, placeFrom};
 ghost use Rattle.definition_tape.specs.Writing.{remarkOf, writing};
-ghost use Rattle.definition_assembler.specs.Assembling.{assembled};
+ghost use Rattle.definition_assembler.specs.Assembling.{assembling};
 use definition_assembler::Assembled;
 use definition_tape::Written;
 use machine::Answer;
@@ -117,7 +117,7 @@ pub fn write(store: &[u32], control: Record, given: bool, text: &[u8], tape: &mu
 
 // The word of a line of the assembler, or its refusal.
 pub fn assemble(line: &[u8]) -> Assembled
-    ensures { λ r. ⌜ r ≡ assembled (now (line .entry)) ⌝ }
+    ensures { λ r. ⌜ r ≡ assembling (now (line .entry)) ⌝ }
 {
     assembler::assemble(line)
 }

@@ -75,7 +75,7 @@ pub +primary+product+sum-spec : {M : Type 1} → statement M
     (λ c. primary-number (now (c .before .before .before .before .args .text)) (c .before .before .before .before .args .at) _ (c .before .before .byte-at .ensures) _ (c .before .if1 .left) (c .number-at .ensures)))
     (λ t. product-lts.spec (primary-below t, primary.Post, combine-reads.Asked, combine-reads.Learnt, byte-at-reads.Asked, byte-at-reads.Learnt) (product-at t) product.Post
     -- Inv-loop, μ-loop
-    (λ text at i₀ l₀ i l. Multiplying text at l₀ i l)
+    (λ text at i₀ l₀ i l. Multiplying text at i l)
     (λ text at i₀ l₀ i l. length text - i)
     -- loop-holds
     (λ c. (omega arith, refl))
@@ -88,7 +88,7 @@ pub +primary+product+sum-spec : {M : Type 1} → statement M
     -- returns
     (λ c.
     let read = c .before .before .before .before in let turn = read .before .before .before in let start = turn .before .before in
-    product-ends (now (start .args .text)) (start .args .at) (turn .loop .i) _ _ (start .args .e) (turn .loop .l) _ _ _ (turn .loop .inv) (read .before .before .primary .ensures) (read .p .given .1) (c .before .before .combine .ensures) (c .before .byte-at .ensures) (c .if1 .left))
+    product-ends (now (start .args .text)) (start .args .at) (turn .loop .i) _ _ (turn .loop .l) _ _ _ (turn .loop .inv) (read .before .before .primary .ensures) (read .p .given .1) (c .before .before .combine .ensures) (c .before .byte-at .ensures) (c .if1 .left))
     -- add-i, loop-less
     (λ c.
     let read = c .before .before .before .before in let turn = read .before .before .before in let start = turn .before .before in
@@ -101,16 +101,16 @@ pub +primary+product+sum-spec : {M : Type 1} → statement M
     -- loop-again
     (λ c.
     let read = c .before .before .before .before in let turn = read .before .before .before in let start = turn .before .before in
-    product-times (now (start .args .text)) (start .args .at) (turn .loop .i) _ _ (start .args .e) (turn .loop .l) _ _ _ (turn .loop .inv) (read .before .before .primary .ensures) (read .p .given .1) (c .before .before .combine .ensures) (c .before .byte-at .ensures) (c .if1 .taken))
+    product-times (now (start .args .text)) (start .args .at) (turn .loop .i) _ _ (turn .loop .l) _ _ _ (turn .loop .inv) (read .before .before .primary .ensures) (read .p .given .1) (c .before .before .combine .ensures) (c .before .byte-at .ensures) (c .if1 .taken))
     -- enum-told
     (λ c. search needs)
     -- returns-2
     (λ c.
     let turn = c .before .before .before in let start = turn .before .before in
-    product-wrong (now (start .args .text)) (start .args .at) (turn .loop .i) (start .args .e) (turn .loop .l) _ (turn .loop .inv) (c .before .before .primary .ensures) (c .enum-told .given .1)))
+    product-wrong (now (start .args .text)) (start .args .at) (turn .loop .i) (turn .loop .l) _ (turn .loop .inv) (c .before .before .primary .ensures) (c .enum-told .given .1)))
     (λ t. sum-lts.spec (product-below t, product.Post, combine-reads.Asked, combine-reads.Learnt, byte-at-reads.Asked, byte-at-reads.Learnt) (sum-at t) sum.Post
     -- Inv-loop, μ-loop
-    (λ text at i₀ l₀ i l. Summing text at l₀ i l)
+    (λ text at i₀ l₀ i l. Summing text at i l)
     (λ text at i₀ l₀ i l. length text - i)
     -- loop-holds
     (λ c. (omega arith, refl))
@@ -123,7 +123,7 @@ pub +primary+product+sum-spec : {M : Type 1} → statement M
     -- returns
     (λ c.
     let read = c .before .before .before .before .before in let turn = read .before .before .before in let start = turn .before .before in
-    sum-ends (now (start .args .text)) (start .args .at) (turn .loop .i) _ _ (start .args .e) (turn .loop .l) _ _ _ (turn .loop .inv) (read .before .before .product .ensures) (read .p .given .1) (c .before .before .before .combine .ensures) (c .before .before .byte-at .ensures) (c .before .if1 .left) (c .if2 .left))
+    sum-ends (now (start .args .text)) (start .args .at) (turn .loop .i) _ _ (turn .loop .l) _ _ _ (turn .loop .inv) (read .before .before .product .ensures) (read .p .given .1) (c .before .before .before .combine .ensures) (c .before .before .byte-at .ensures) (c .before .if1 .left) (c .if2 .left))
     -- add-i, loop-less
     (λ c.
     let read = c .before .before .before .before in let turn = read .before .before .before in let start = turn .before .before in
@@ -137,12 +137,12 @@ pub +primary+product+sum-spec : {M : Type 1} → statement M
     (λ c.
     let read = c .before .before .before .before in let turn = read .before .before .before in let start = turn .before .before in
     ⊎-elim
-    (λ y. sum-plus (now (start .args .text)) (start .args .at) (turn .loop .i) _ _ (start .args .e) (turn .loop .l) _ _ _ _ (turn .loop .inv) (read .before .before .product .ensures) (read .p .given .1) (c .before .before .combine .ensures) (c .before .byte-at .ensures) (y .0 .taken) (y .1))
-    (λ y. sum-minus (now (start .args .text)) (start .args .at) (turn .loop .i) _ _ (start .args .e) (turn .loop .l) _ _ _ _ (turn .loop .inv) (read .before .before .product .ensures) (read .p .given .1) (c .before .before .combine .ensures) (c .before .byte-at .ensures) (y .1 .taken) (y .2))
+    (λ y. sum-plus (now (start .args .text)) (start .args .at) (turn .loop .i) _ _ (turn .loop .l) _ _ _ _ (turn .loop .inv) (read .before .before .product .ensures) (read .p .given .1) (c .before .before .combine .ensures) (c .before .byte-at .ensures) (y .0 .taken) (y .1))
+    (λ y. sum-minus (now (start .args .text)) (start .args .at) (turn .loop .i) _ _ (turn .loop .l) _ _ _ _ (turn .loop .inv) (read .before .before .product .ensures) (read .p .given .1) (c .before .before .combine .ensures) (c .before .byte-at .ensures) (y .1 .taken) (y .2))
     (c .if1 .came))
     -- enum-told
     (λ c. search needs)
     -- returns-2
     (λ c.
     let turn = c .before .before .before in let start = turn .before .before in
-    sum-wrong (now (start .args .text)) (start .args .at) (turn .loop .i) (start .args .e) (turn .loop .l) _ (turn .loop .inv) (c .before .before .product .ensures) (c .enum-told .given .1)))
+    sum-wrong (now (start .args .text)) (start .args .at) (turn .loop .i) (turn .loop .l) _ (turn .loop .inv) (c .before .before .product .ensures) (c .enum-told .given .1)))
