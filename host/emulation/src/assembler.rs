@@ -77,8 +77,8 @@ impl Reader<'_> {
     }
 
     fn mnemonic(&mut self) -> Result<u32, Refusal> {
-        let (letters, rest) = self.rest.split_at_checked(2).ok_or(Refusal::LineGrammar)?;
-        self.rest = rest;
+        let letters = self.rest.get(..2).ok_or(Refusal::LineGrammar)?;
+        self.rest = &self.rest[2..];
         let mut names = MNEMONIC_CODES.iter();
         let code = names.position(|name| name.as_bytes() == letters);
         code.map(|code| code as u32).ok_or(Refusal::LineGrammar)
