@@ -54,10 +54,10 @@ fn lengths() {
     assert_eq!(assemble(&line), Err(Refusal::LineGrammar));
 }
 
-/// 97 has no divisor in common with the size of any field.
+/// All words with an assigned code, by the proved library.
 #[test]
 fn words_there_and_back() {
-    for word in (0..58 << 18).step_by(97) {
+    for word in 0..58 << 18 {
         let line = disassemble(word).unwrap();
         assert_eq!(assemble(line.as_bytes()), Ok(word), "{line}");
     }
