@@ -1,4 +1,6 @@
 // The tests that stores, control records and runs are judged by, in the order of documents 01 and 02.
+#![tactic(auto)]
+
 ghost use Rattle.std.specs.Prelude.{◌≡◌};
 ghost use Rattle.acceptance.specs.Accept.{size_fits, cells_fit, state_fits, control_fits, timer_fits, judge_store, judge_registers, judge_machine, judge_call, judge_devices, characters_fit, devices_fit, judge_run, judge_autoload};
 

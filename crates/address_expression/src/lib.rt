@@ -1,4 +1,6 @@
 // Addresses of the assembler: numbers, +, -, * and round parentheses, read by three functions that call one another in a cycle.
+#![tactic(auto)]
+
 ghost use Rattle.std.specs.Prelude.{◌≡◌, true, false, ◌≤◌, max, get_or, drop, ℤ, ◌+ℤ◌, ◌*ℤ◌};
 ghost use Rattle.definition_assembler.specs.Line.{address_of};
 ghost use Rattle.definition_assembler.specs.Reader.{is_digit, digits, sum_at, product_at, primary_at, Nothing, parse, combined, number_at, closed};
@@ -9,7 +11,7 @@ use definition_assembler::Address;
 use machine::Refusal;
 
 // A value while it is in range, by sign and magnitude; whether every value was in range; the depth of the parentheses, 17 for every depth over 16.
-#[derive(Drop)]
+#[derive(Clone, Copy)]
 pub struct Value {
     pub fits: bool,
     pub negative: bool,
@@ -18,7 +20,7 @@ pub struct Value {
 }
 
 // The left operand in the same sum or product, and the operator after it.
-#[derive(Drop)]
+#[derive(Clone, Copy)]
 pub enum LeftOperand {
     NoOperand,
     BeforePlus(Value),
@@ -27,14 +29,14 @@ pub enum LeftOperand {
 }
 
 // What was read and the place after it, or a text outside the grammar.
-#[derive(Drop)]
+#[derive(Clone, Copy)]
 pub enum Reading {
     Failed,
     Read(Value, usize),
 }
 
 // The address that stands at a place and the place after it.
-#[derive(Drop)]
+#[derive(Clone, Copy)]
 pub enum Found {
     NoAddress,
     AddressTo(Address, usize),

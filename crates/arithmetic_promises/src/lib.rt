@@ -1,1 +1,2 @@
 // What is promised of the arithmetic. No code: see specs/.
+#![tactic(auto)]

@@ -1,4 +1,6 @@
 // assemble: a listing on standard input; for each line its word in decimal, or its number and refusal (document 02, E7).
+#![tactic(auto)]
+
 use definition_assembler::Assembled;
 
 fn write_refused(number: u64, refusal: u32) {

@@ -1,5 +1,7 @@
 // assemble_tape: a listing on standard input; its load tape on standard output. The words stand from cell 8 on in 4,096 cells of zero, all keys 0, and
 // IC is 16, in monitor mode with interrupts disabled. Nothing is written where a line is refused or the cells or the bytes of the listing are too many.
+#![tactic(auto)]
+
 use definition_assembler::Assembled;
 use machine::{Control, Record};
 

@@ -1,4 +1,6 @@
 // The assembler: a mnemonic, a dot if relative, a register, an index, an address; the last two in square brackets if indirect.
+#![tactic(auto)]
+
 ghost use Rattle.std.specs.Prelude.{◌≡◌, cond, ◌&&◌, ◌+◌, ◌-◌, ◌≤◌, ◌<◌, eqb};
 ghost use Rattle.definition_assembler.specs.Line.{fields, word_of};
 ghost use Rattle.definition_assembler.specs.Head.{code_of, byte, past, is_register, is_index, register_good, index_good, index_of, past_index, head_good};

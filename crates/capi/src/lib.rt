@@ -1,4 +1,6 @@
 // The C calls (host/include/rc4000.h): the public calls, with the records of `capi_records` in and out. The control record's flag bytes are tested first, save by a load and an overlay.
+#![tactic(auto)]
+
 ghost use Rattle.std.specs.Prelude.{◌≡◌};
 ghost use Rattle.definition_tape.specs.Remark.{remark_span};
 ghost use Rattle.capi_records.specs.Results.{returned, run_returned, run_call, reset_call, start_call, autoload_call, load_call, overlay_call, text_of, write_returned, write_call, assemble_call};

@@ -1,1 +1,2 @@
 // What is promised of the C calls. No code: see specs/.
+#![tactic(auto)]

@@ -1,4 +1,6 @@
 // The records of the C calls (host/include/rc4000.h). Enums do not cross: an outcome is two numbers, a verdict is one. A flag of the control record comes in as a byte, which is tested; `found` only goes out.
+#![tactic(auto)]
+
 ghost use Rattle.std.specs.Prelude.{◌≡◌};
 ghost use Rattle.capi_records.specs.Results.{flag_byte, flags_fit, registers_in, timer_in, record_in, record_of, judge_flags, outcome_code, outcome_number, result_by, refused_run, state_by, refused_state, autoloaded_by, refused_autoload, refused_write, write_result_by, assemble_result};
 
@@ -11,7 +13,7 @@ use machine::{
 
 // The control record as it crosses.
 #[repr(C)]
-#[derive(Drop)]
+#[derive(Clone, Copy)]
 pub struct ControlRecord {
     pub ic: u32,
     pub ir: u32,
@@ -29,7 +31,7 @@ pub struct ControlRecord {
 }
 
 #[repr(C)]
-#[derive(Drop)]
+#[derive(Clone, Copy)]
 pub struct CallResult {
     pub control: ControlRecord,
     pub outcome: u32,
@@ -42,14 +44,14 @@ pub struct CallResult {
 }
 
 #[repr(C)]
-#[derive(Drop)]
+#[derive(Clone, Copy)]
 pub struct StateResult {
     pub control: ControlRecord,
     pub refusal: u32,
 }
 
 #[repr(C)]
-#[derive(Drop)]
+#[derive(Clone, Copy)]
 pub struct AutoloadResult {
     pub control: ControlRecord,
     pub refusal: u32,
@@ -58,7 +60,7 @@ pub struct AutoloadResult {
 }
 
 #[repr(C)]
-#[derive(Drop)]
+#[derive(Clone, Copy)]
 pub struct TextResult {
     pub refusal: u32,
     pub found: bool,
@@ -67,14 +69,14 @@ pub struct TextResult {
 }
 
 #[repr(C)]
-#[derive(Drop)]
+#[derive(Clone, Copy)]
 pub struct WriteResult {
     pub refusal: u32,
     pub length: usize,
 }
 
 #[repr(C)]
-#[derive(Drop)]
+#[derive(Clone, Copy)]
 pub struct AssembleResult {
     pub refusal: u32,
     pub word: u32,

@@ -1,4 +1,6 @@
 // Makes the calls of the cases in the file stdin, and writes a line for each. README.md describes both files; host/cases writes them.
+#![tactic(auto)]
+
 use definition_assembler::Assembled;
 use definition_tape::Written;
 use machine::{
@@ -6,7 +8,7 @@ use machine::{
 };
 
 // What a case asks for, beside what it lends.
-#[derive(Drop)]
+#[derive(Clone, Copy)]
 struct Call {
     kind: u32,
     lines: u32,

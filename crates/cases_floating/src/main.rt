@@ -1,5 +1,7 @@
 // Runs FA, FS, FM, FD, CI and CF over edge operands and drawn ones. One line for each: name, number of cases, checksum of the results.
 // tools/models/floating.py makes the expected output.
+#![tactic(auto)]
+
 ghost use Rattle.std.specs.Prelude.{◌^◌, ◌<◌};
 
 use floating::Converted;
@@ -8,7 +10,7 @@ use rounding::Pair;
 const DRAWN: u32 = 12000;
 
 // EX, Wpre, W and a storage double word; the generator's number after they were drawn.
-#[derive(Drop)]
+#[derive(Clone, Copy)]
 struct Case {
     seed: u64,
     ex: u32,

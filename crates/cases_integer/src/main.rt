@@ -1,5 +1,7 @@
 // Runs the integer operations on edge operands, taken with each other, and on 10,000 random ones each. One line for each operation: its
 // name, the number of cases, and a checksum of every field of every result. tools/models/integer.py writes the lines that are expected.
+#![tactic(auto)]
+
 mod operands;
 mod operation;
 

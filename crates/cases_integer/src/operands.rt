@@ -2,7 +2,7 @@
 ghost use Rattle.std.specs.Prelude.{◌^◌, ◌<◌};
 
 // Wpre, W and SB; for AA and SS the storage operand is SB and Wpre.
-#[derive(Drop)]
+#[derive(Clone, Copy)]
 pub struct Operands {
     pub pre: u32,
     pub w: u32,

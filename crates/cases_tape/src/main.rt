@@ -2,6 +2,8 @@
 //
 // All numbers have 4 bytes, little-endian. First the number of cases. A case: 1 (load), 2 (remark) or 3 (overlay), the number of cells, the number
 // of cells that are not zero, the number of the tape's bytes; then index and value of each cell that is not zero; then the tape.
+#![tactic(auto)]
+
 ghost use Rattle.std.specs.Prelude.{◌≤◌};
 
 use machine::{Control, Record, State, Timer, Verdict};

@@ -1,6 +1,8 @@
 // The low-speed data channel (chapter 8) during a run, in a lent row: the device buffer registers of reader and typewriter, the number of characters
 // taken, the number of bytes typed, and how many of each were lent. The characters and the typing buffer stand beside it: a function that does not
 // look at one of them takes it for its contract's sake. Only this file knows the places.
+#![tactic(auto)]
+
 ghost use Rattle.std.specs.Prelude.{◌≡◌, ◌-◌, ◌<◌, length};
 ghost use Rattle.registers.specs.Reg.{word_range};
 ghost use Rattle.definition_instructions.specs.Channel.{lent, registers_of, none_left, disconnected, device_buffer, taking, read_from, typing_on, write_to, four_left};

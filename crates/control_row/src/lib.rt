@@ -1,5 +1,7 @@
 // The control registers during a run, in one lent row: a record passed by value moves through memory in every cycle (docs/PERFORMANCE.md). It is the
 // row of a machine outside the reset state, where alone cycles are made. Only this file knows the places.
+#![tactic(auto)]
+
 ghost use Rattle.std.specs.Prelude.{◌≡◌, false, cond, ◌<◌};
 ghost use Rattle.machine.specs.Store.{forbidden, violation};
 ghost use Rattle.machine.specs.Fields.{in_task, with_ic, with_ir, with_im, with_pending, with_pr, with_ex, with_enabled, raised, flags_cleared, overflowed, carry_set};
@@ -11,7 +13,7 @@ use registers::WORD_RANGE;
 pub type Row = [u32; 9];
 
 // How an instruction ended.
-#[derive(Drop)]
+#[derive(Clone, Copy)]
 pub enum End {
     Done,
     Reset,

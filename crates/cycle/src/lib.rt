@@ -1,4 +1,6 @@
 // One cycle (14.5): lines, fetch, decode, effective address, operation, entry.
+#![tactic(auto)]
+
 ghost use Rattle.std.specs.Prelude.{◌≡◌, ◌+◌, ◌<◌, ◌≤◌, length};
 ghost use Rattle.registers.specs.Reg.{word_range};
 ghost use Rattle.acceptance.specs.Accept.{most_cells};
@@ -20,7 +22,7 @@ use registers::WORD_RANGE;
 use timer_row::{Clock, ENTRY};
 
 // How a cycle ended.
-#[derive(Drop)]
+#[derive(Clone, Copy)]
 pub enum CycleEnd {
     Executed,
     Reset,

@@ -1,1 +1,2 @@
 // What is promised of the panel keys and of an interruption entry. No code: see specs/.
+#![tactic(auto)]

@@ -1,1 +1,2 @@
 // The definition of execution times and of the timer. No code: see specs/.
+#![tactic(auto)]

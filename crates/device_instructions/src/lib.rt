@@ -1,4 +1,6 @@
 // The instructions that reach devices, IO and AW (14.8, chapter 8): each function does the micro-operations of its meaning, in their order.
+#![tactic(auto)]
+
 ghost use Rattle.std.specs.Prelude.{◌≡◌, true, ◌/◌, ◌<◌};
 ghost use Rattle.registers.specs.Reg.{word_range};
 ghost use Rattle.control_row.specs.Row.{control_at, IsRow};

@@ -1,5 +1,7 @@
 // The operation by its numeric code (A.2), with its time (A.3). Two halves: with an arm for each of 58 codes in one `match` the compiler takes every arm for rare, and
 // leaves the instructions as calls.
+#![tactic(auto)]
+
 ghost use Rattle.std.specs.Prelude.{◌≡◌, ◌+◌, ◌*◌, ◌<◌, ◌≤◌};
 ghost use Rattle.registers.specs.Reg.{word_range};
 ghost use Rattle.machine.specs.Store.{word};

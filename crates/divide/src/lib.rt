@@ -1,11 +1,13 @@
 // Divide Integer Word, by its steps. ARBR, 49 bits, is held in a u64.
+#![tactic(auto)]
+
 ghost use Rattle.std.specs.Prelude.{◌≡◌, ◌^◌, ◌<◌};
 ghost use Rattle.divide.specs.Wd.{wd_step, wd_loop, abs24, kept, stored_division, wd_sign, wd_correction, wd_end, wd};
 
 use registers::{BIT_0, LONG_BIT_0, LONG_WORD_RANGE, WORD_RANGE};
 
 // Wpre and W, and 1 where the quotient does not fit and the pair is kept.
-#[derive(Drop)]
+#[derive(Clone, Copy)]
 pub struct Divided {
     pub pre: u32,
     pub word: u32,

@@ -1,4 +1,6 @@
 // The instruction at IC with its tests, and the effective address (14.5).
+#![tactic(auto)]
+
 ghost use Rattle.std.specs.Prelude.{◌≡◌, ◌+◌, ◌*◌, ◌/◌, ◌%◌, ◌<◌, ◌≤◌, length};
 ghost use Rattle.registers.specs.Reg.{word_range};
 ghost use Rattle.acceptance.specs.Accept.{most_cells};

@@ -9,7 +9,7 @@ use rounding::{Pair, Unpacked};
 // Of SC, as printed (docs/DECISIONS.md, A3).
 const DIVIDE_OFFSET: u32 = 35;
 
-#[derive(Drop)]
+#[derive(Clone, Copy)]
 pub struct Quotient {
     pub af: u64,
     pub bf: u64,

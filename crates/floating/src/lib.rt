@@ -1,4 +1,6 @@
 // Floating-point instructions: words of 24 bits in, words and flags out.
+#![tactic(auto)]
+
 ghost use Rattle.std.specs.Prelude.{◌≡◌, ◌^◌, ◌<◌};
 ghost use Rattle.floating.specs.Operands.{fetch_floating};
 ghost use Rattle.floating.specs.Add.{fa, fs};
@@ -15,7 +17,7 @@ mod division;
 mod multiplication;
 
 // What Fetch Floating Operands leaves: the fractions in AF and SF, and the exponents.
-#[derive(Drop)]
+#[derive(Clone, Copy)]
 pub struct Operands {
     pub af: u64,
     pub sf: u64,
@@ -24,7 +26,7 @@ pub struct Operands {
 }
 
 // W of CF, and 1 where EX(22) and IR(1) are set.
-#[derive(Drop)]
+#[derive(Clone, Copy)]
 pub struct Converted {
     pub word: u64,
     pub over: u32,

@@ -5,7 +5,7 @@ ghost use Rattle.floating.specs.Multiply.{fm_step, fm_end, fm_loop, multiply_flo
 use super::{Operands, accumulator};
 use rounding::{Pair, Unpacked};
 
-#[derive(Drop)]
+#[derive(Clone, Copy)]
 pub struct Product {
     pub af: u64,
     pub bf: u64,

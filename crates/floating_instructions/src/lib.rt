@@ -1,4 +1,6 @@
 // Conversions and floating-point arithmetic (14.8): each function does the micro-operations of its meaning, in their order.
+#![tactic(auto)]
+
 ghost use Rattle.std.specs.Prelude.{◌≡◌, ◌<◌};
 ghost use Rattle.registers.specs.Reg.{word_range};
 ghost use Rattle.control_row.specs.Row.{control_at, IsRow};

@@ -1,4 +1,6 @@
 // Integer sums, logical operations and skip tests on words of 24 bits, held in u32.
+#![tactic(auto)]
+
 ghost use Rattle.std.specs.Prelude.{◌≡◌, ◌+◌, ◌%◌, ◌^◌, ◌<◌};
 ghost use Rattle.registers.specs.Reg.{word_range};
 ghost use Rattle.integer.specs.Sums.{adder, sum, difference, sum_with_carry, difference_with_carry, sum24};
@@ -8,7 +10,7 @@ ghost use Rattle.integer.specs.Skip.{comparison, is_high, is_low, is_equal, is_n
 use registers::{BIT_0, WORD_RANGE};
 
 // AR(0:23), and 1 for an overflow and for a carry.
-#[derive(Drop)]
+#[derive(Clone, Copy)]
 pub struct Sum {
     pub word: u32,
     pub over: u32,

@@ -1,4 +1,6 @@
 // Integer arithmetic, logical operations and shifts (14.8): each function does the micro-operations of its meaning, in their order.
+#![tactic(auto)]
+
 ghost use Rattle.std.specs.Prelude.{◌≡◌, ◌<◌};
 ghost use Rattle.registers.specs.Reg.{word_range};
 ghost use Rattle.machine.specs.Fields.{overflowed, carry_set};

@@ -1,4 +1,6 @@
 // The line to be taken and the entry of an interruption (14.5).
+#![tactic(auto)]
+
 ghost use Rattle.std.specs.Prelude.{◌≡◌, ◌<◌, ◌≤◌};
 ghost use Rattle.definition_instructions.specs.Machine.{computer};
 ghost use Rattle.definition_runs.specs.Cycle.{bit_from_left, requested, first_request, line_of, bit_alone, line_cleared, enter};

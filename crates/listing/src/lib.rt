@@ -1,4 +1,6 @@
 // The lines of a listing: the bytes between its newlines. A final newline opens no further line.
+#![tactic(auto)]
+
 ghost use Rattle.std.specs.Prelude.{◌≡◌, ◌≤◌, length};
 ghost use Rattle.listing.specs.Lines.{line_end};
 

@@ -1,4 +1,6 @@
 // loadrun: a tape on standard input into 4,096 cells of zero, then 100 cycles with no lines; one line of output (document 01).
+#![tactic(auto)]
+
 use machine::{Answer, Devices, Outcome, Record, Run, Verdict};
 
 // The run of the machine that the tape loads, with no characters and no typing space lent; a refused tape is a refused run.

@@ -1,5 +1,7 @@
 // The machine's values, and one total function for each primitive on cells: a cell that is not there reads as 0, and a write to it does nothing; a
 // value is reduced to the width of what it goes into. So no public function asks anything of its caller.
+#![tactic(auto)]
+
 ghost use Rattle.std.specs.Prelude.{◌≡◌, ◌+◌, ◌*◌, ◌/◌, ◌%◌, ◌<◌, get_or, set};
 ghost use Rattle.registers.specs.Reg.{word_range};
 ghost use Rattle.machine.specs.Store.{word, pair, key, put_word, put_key, byte, with_byte, put_byte, put_link, absent, forbids, first_word, previous};
@@ -17,7 +19,7 @@ pub const FLOATING_OVERFLOW: u32 = 2097152;
 
 // The control registers (document 01, "The machine"): the control record without the timer.
 #[repr(C)]
-#[derive(Drop)]
+#[derive(Clone, Copy)]
 pub struct Control {
     pub ic: u32,
     pub ir: u32,
@@ -77,7 +79,7 @@ impl Control {
 // The elapsed time and the interval timer (document 02, E6), in tenths of a microsecond: period 0 for off; at the end of an interval the line with
 // this number, bit 0 the left-most, is raised.
 #[repr(C)]
-#[derive(Drop)]
+#[derive(Clone, Copy)]
 pub struct Timer {
     pub elapsed: u32,
     pub period: u32,
@@ -101,7 +103,7 @@ impl Timer {
 
 // The control record: the control registers and the timer.
 #[repr(C)]
-#[derive(Drop)]
+#[derive(Clone, Copy)]
 pub struct Record {
     pub registers: Control,
     pub timer: Timer,
@@ -123,14 +125,14 @@ impl Record {
 
 // The device buffer registers, beside the control record (chapter 8): 24 bits each.
 #[repr(C)]
-#[derive(Drop)]
+#[derive(Clone, Copy)]
 pub struct Devices {
     pub reader: u32,
     pub typewriter: u32,
 }
 
 // The fields of an instruction word.
-#[derive(Drop)]
+#[derive(Clone, Copy)]
 pub struct Instruction {
     pub code: u32,
     pub w: u32,
@@ -154,7 +156,7 @@ impl Instruction {
 }
 
 // Why an instruction exception was met, with the address whose test failed: said by the definition, not yet told by the code.
-#[derive(Drop)]
+#[derive(Clone, Copy)]
 pub enum Fault {
     Unassigned,
     Absent(u32),
@@ -164,7 +166,7 @@ pub enum Fault {
 }
 
 // What an interruption was; a line carries the number stored.
-#[derive(Drop)]
+#[derive(Clone, Copy)]
 pub enum Kind {
     Exception,
     Line(u32),
@@ -183,7 +185,7 @@ impl Kind {
 }
 
 // How a run ended.
-#[derive(Drop)]
+#[derive(Clone, Copy)]
 pub enum Outcome {
     Reset,
     Interrupted(Kind),
@@ -191,7 +193,7 @@ pub enum Outcome {
 }
 
 // The numbered refusals: 1 to 12 of document 01, "Who can be refused, for what", from 13 on of document 02; in the order of their numbers.
-#[derive(Drop)]
+#[derive(Clone, Copy)]
 pub enum Refusal {
     StoreSize,
     CellValue,
@@ -247,21 +249,21 @@ impl Refusal {
 }
 
 // What the tests of a call came to.
-#[derive(Drop)]
+#[derive(Clone, Copy)]
 pub enum Verdict {
     Accepted,
     Rejected(Refusal),
 }
 
 // What a run answers.
-#[derive(Drop)]
+#[derive(Clone, Copy)]
 pub enum Answer {
     Refused(Refusal),
     Ended(Outcome),
 }
 
 // What a run hands back: `taken` of the reader's characters, `typed` bytes at the front of the typing buffer.
-#[derive(Drop)]
+#[derive(Clone, Copy)]
 pub struct Run {
     pub control: Record,
     pub answer: Answer,
@@ -273,14 +275,14 @@ pub struct Run {
 }
 
 // What the reset key, the start key and the loader hand back.
-#[derive(Drop)]
+#[derive(Clone, Copy)]
 pub struct State {
     pub control: Record,
     pub verdict: Verdict,
 }
 
 // What the autoload key hands back.
-#[derive(Drop)]
+#[derive(Clone, Copy)]
 pub struct Autoloaded {
     pub control: Record,
     pub verdict: Verdict,

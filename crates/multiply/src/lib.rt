@@ -1,4 +1,6 @@
 // Multiply Integer Word, by one multiplication of signed numbers.
+#![tactic(auto)]
+
 ghost use Rattle.std.specs.Prelude.{◌≡◌, pos, ◌-ℤ◌, ◌+◌, ◌%◌, ◌^◌, ◌<◌};
 ghost use Rattle.multiply.specs.Wm.{wm};
 

@@ -1,11 +1,13 @@
 // Normalizing a register of 48 bits; narrower ones stand at its left.
+#![tactic(auto)]
+
 ghost use Rattle.std.specs.Prelude.{◌≡◌, ◌^◌, ◌<◌};
 ghost use Rattle.normalize.specs.Norm.{normalize, normalized, shifts_by};
 
 use registers::LONG_WORD_RANGE;
 
 // The register, and the count of shifts or, of NS and ND, the byte to store.
-#[derive(Drop)]
+#[derive(Clone, Copy)]
 pub struct Normal {
     pub word: u64,
     pub shifts: u32,

@@ -1,4 +1,6 @@
 // The reset, start and autoload keys (14.4), with their refusals. They take no time.
+#![tactic(auto)]
+
 ghost use Rattle.std.specs.Prelude.{◌≡◌, true, ◌<◌};
 ghost use Rattle.registers.specs.Reg.{word_range};
 ghost use Rattle.machine.specs.declared.Verdict.TheVariants.{Accepted};

@@ -1,4 +1,6 @@
 // The public calls. None asks anything of its caller; each contract sets the result and all that is lent for all inputs.
+#![tactic(auto)]
+
 ghost use Rattle.std.specs.Prelude.{◌≡◌};
 ghost use Rattle.definition_runs.specs.Timed.{timed_computer};
 ghost use Rattle.definition_runs.specs.Lent.{run_result_of, pressed_of, returned, run_lent, key_returned, autoload_lent};

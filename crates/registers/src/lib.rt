@@ -1,4 +1,6 @@
 // Registers of the RC 4000, held in u32 and u64.
+#![tactic(auto)]
+
 ghost use Rattle.std.specs.Prelude.{◌≡◌, ◌^◌, ◌<◌, max};
 ghost use Rattle.registers.specs.Reg.{word_range, signed, signed_byte, add_ar, sub_ar};
 

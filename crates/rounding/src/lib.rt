@@ -1,4 +1,6 @@
 // AF, 39 bits, in a u64, and SC, 13 bits, in a u32: normalizing, rounding, storing in Wpre and W.
+#![tactic(auto)]
+
 ghost use Rattle.std.specs.Prelude.{◌≡◌, ◌/◌, ◌%◌, ◌^◌, ◌<◌};
 ghost use Rattle.rounding.specs.Round.{left_shifts, normalize_once, normalize_round};
 ghost use Rattle.rounding.specs.Store.{precise, stored_floating, precise_store, round_store};
@@ -7,14 +9,14 @@ ghost use Rattle.rounding.specs.Convert.{ci, integer_shifts};
 use registers::LONG_WORD_RANGE;
 
 // A fraction in AF and an exponent in SC.
-#[derive(Drop)]
+#[derive(Clone, Copy)]
 pub struct Unpacked {
     pub af: u64,
     pub sc: u32,
 }
 
 // Wpre and W, and 1 where EX(22) and IR(2) are set.
-#[derive(Drop)]
+#[derive(Clone, Copy)]
 pub struct Pair {
     pub pre: u64,
     pub word: u64,

@@ -1,4 +1,6 @@
 // The cycles of a run, until the budget is used, the reset state or an entry.
+#![tactic(auto)]
+
 ghost use Rattle.std.specs.Prelude.{◌≡◌, ◌<◌};
 ghost use Rattle.registers.specs.Reg.{word_range};
 ghost use Rattle.machine.specs.declared.Verdict.TheVariants.{Accepted};
@@ -19,7 +21,7 @@ use machine::{Answer, Control, Devices, Outcome, Record, Run};
 use timer_row::Clock;
 
 // How the cycles ended; cells and row stand beside it.
-#[derive(Drop)]
+#[derive(Clone, Copy)]
 struct RunEnd {
     answer: Answer,
     executed: u32,

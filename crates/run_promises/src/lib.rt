@@ -1,1 +1,2 @@
 // What is promised of every run, and of several. No code: see specs/.
+#![tactic(auto)]

@@ -1,4 +1,6 @@
 // The shift operations, one place at a time.
+#![tactic(auto)]
+
 ghost use Rattle.std.specs.Prelude.{◌≡◌, ◌^◌, ◌<◌};
 ghost use Rattle.registers.specs.Reg.{asr, shl, iter};
 ghost use Rattle.shift.specs.Shift.{places, left_step, arithmetic, logical, shr, shifts_made};
@@ -6,7 +8,7 @@ ghost use Rattle.shift.specs.Shift.{places, left_step, arithmetic, logical, shr,
 use registers::{BIT_0, LONG_WORD_RANGE, WORD_RANGE};
 
 // A register, and 1 where a shift to the left changed the sign.
-#[derive(Drop)]
+#[derive(Clone, Copy)]
 pub struct Shifted {
     pub word: u64,
     pub over: u32,

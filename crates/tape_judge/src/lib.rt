@@ -1,4 +1,6 @@
 // The judge of a load tape (document 01, "Load tape"; document 02, E4 and E6).
+#![tactic(auto)]
+
 ghost use Rattle.std.specs.Prelude.{◌≡◌, true, false, [], ◌+◌, ◌*◌, ◌≤◌, length};
 ghost use Rattle.acceptance.specs.Accept.{cells_fit};
 ghost use Rattle.definition_tape.specs.Layout.{cells_from, records_of};
@@ -151,7 +153,7 @@ fn judge_record(t: &[u8], cells: usize, after: bool, unnamed: bool) -> Verdict
 // ---- the judge, record by record
 
 // What follows a record: the verdict, or the next record so many bytes further on; the flag says that this one was the control record.
-#[derive(Drop)]
+#[derive(Clone, Copy)]
 pub enum Step {
     Done(Verdict),
     Advance(usize, bool),

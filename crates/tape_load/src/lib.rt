@@ -1,4 +1,6 @@
 // Load and overlay (document 01, "Load tape"; document 02, E5 and E6): the whole tape is judged before a cell changes.
+#![tactic(auto)]
+
 ghost use Rattle.std.specs.Prelude.{◌≡◌, ◌+◌, ◌*◌, ◌≤◌, length};
 ghost use Rattle.definition_tape.specs.Layout.{length_of, first_cell, cell_count, cells_from, block_cells};
 ghost use Rattle.machine.specs.declared.Verdict.TheVariants.{Accepted};

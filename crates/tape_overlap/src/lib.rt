@@ -1,5 +1,7 @@
 // The first record of a load tape that names a cell again (document 02, E4). Blocks that rise need one pass over the headers. For others the cells
 // are marked as they are named, so many at a time as the marks have places for.
+#![tactic(auto)]
+
 ghost use Rattle.std.specs.Prelude.{◌≡◌, true, false, List, [], ◌∷◌, ℕ, ◌+◌, ◌-◌, ◌*◌, ◌^◌, ◌≤◌, ◌<◌, min, max, length};
 ghost use Rattle.definition_tape.specs.Layout.{records_of, first_cell, cell_count};
 ghost use Rattle.definition_tape.specs.Judge.{times_named};
@@ -13,14 +15,14 @@ const WORDS: usize = 8192;
 const PLACES: usize = 262144;
 
 // The cells that a record names: those from `from` up to, not including, `to`; none where both are equal.
-#[derive(Drop)]
+#[derive(Clone, Copy)]
 pub struct Cells {
     pub from: usize,
     pub to: usize,
 }
 
 // What a search finds: the number of the record where it stops, and an end of the cells that the records before it name.
-#[derive(Drop)]
+#[derive(Clone, Copy)]
 pub struct Searched {
     pub first: usize,
     pub high: usize,

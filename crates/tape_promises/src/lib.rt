@@ -1,1 +1,2 @@
 // What is promised of load tapes. No code: see specs/.
+#![tactic(auto)]

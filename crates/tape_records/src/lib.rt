@@ -1,4 +1,6 @@
 // The records of a load tape, and the first one of a kind (document 01, "Load tape"; document 02, E6). A record is handled by the tape from its header on.
+#![tactic(auto)]
+
 ghost use Rattle.std.specs.Prelude.{◌≡◌, ◌+◌, ◌*◌, ◌≤◌, ◌<◌, length};
 ghost use Rattle.definition_tape.specs.Layout.{number_at, length_of, kind_of, payload_of, records_of, first_of, control_of, timer_of, control_record_of};
 ghost use Rattle.tape_records.specs.Looks.{look_for};
@@ -104,7 +106,7 @@ pub fn record_of(p: &[u8]) -> Record
 
 // ---- the hunt for a record of one kind
 
-#[derive(Drop)]
+#[derive(Clone, Copy)]
 pub enum Look {
     Nothing,
     Here,

@@ -1,4 +1,6 @@
 // The reader of a tape's first remark (document 01, "Load tape").
+#![tactic(auto)]
+
 ghost use Rattle.std.specs.Prelude.{◌≡◌};
 ghost use Rattle.machine.specs.declared.Verdict.TheVariants.{Accepted};
 ghost use Rattle.definition_tape.specs.Layout.{records_of, first_of, Whole};

@@ -1,5 +1,7 @@
 // Writing tapes: a machine and its remark into a lent buffer (document 02, E2 and E6). The first pass over the store counts the tape's bytes, the second
 // writes them. A function that writes leaves all other bytes of the buffer as they are; where it takes no place it begins at the front.
+#![tactic(auto)]
+
 ghost use Rattle.std.specs.Prelude.{◌≡◌, true, ◌+◌, ◌*◌, ◌%◌, ◌≤◌, ◌<◌, length, get_or, drop};
 ghost use Rattle.acceptance.specs.Accept.{most_cells};
 ghost use Rattle.definition_tape.specs.Blocks.{stretch, store_blocks};

@@ -1,5 +1,7 @@
 // The timer during a run, in one lent row: a cycle adds its time in one place, and at its end one comparison tells whether elapsed time and phase have
 // to be worked out (docs/PERFORMANCE.md). Only this file knows the places.
+#![tactic(auto)]
+
 ghost use Rattle.std.specs.Prelude.{◌≡◌, ◌%◌, ◌<◌, true};
 ghost use Rattle.acceptance.specs.Accept.{timer_fits};
 ghost use Rattle.definition_times.specs.Timer.{timer_after, interval_ends, line_bit, line_raised};

@@ -1,4 +1,6 @@
 // Address handling, register transfer and byte transfer (14.8): each function does the micro-operations of its meaning, in their order.
+#![tactic(auto)]
+
 ghost use Rattle.std.specs.Prelude.{◌≡◌};
 ghost use Rattle.control_row.specs.Row.{control_at, IsRow};
 ghost use Rattle.control_row.specs.Endings.{ending, ending_of};

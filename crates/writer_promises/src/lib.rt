@@ -1,1 +1,2 @@
 // What is promised of the tapes that are written. No code: see specs/.
+#![tactic(auto)]
