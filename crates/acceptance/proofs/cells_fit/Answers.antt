@@ -1,0 +1,43 @@
+use Prim.Native.Nat.{ℕ, ◌+◌, ◌-◌, ◌≤◌, ◌<◌}
+use mathlib.Core.Path.{◌≡◌, refl}
+use mathlib.Core.Bool.{Bool, true, false, cond}
+use mathlib.Core.List.{List}
+use mathlib.Core.Logic.{⊎_elim}
+use native.Mathlib.Numerals.{add-one}
+use lib.ListN.{length, get_or, drop, drop_of_length-le}
+use lib.Seq.{drop-cons}
+use lib.Dec.{ltb}
+use borrow.Author.Tests.{lt-ltb, le-ltb}
+use Rattle.acceptance.specs.Accept.{cells_fit}
+use Rattle.std.proofs.Common.{rules}
+use Rattle.acceptance.proofs.cells_fit.Goals as goal
+
+step : (s : List ℕ) (i : ℕ) → i < length s
+    → cells_fit (drop i s) ≡ cond (ltb (get_or s i 0) 134217728) (cells_fit (drop (i + 1) s)) false
+unfolding cells_fit
+step s i h = rw (add-one, drop-cons s i 0 h)
+
+never-fits : (fit : Bool) → false ≡ cond fit false false
+never-fits true = refl
+never-fits false = refl
+
+fits-or-not : (fit : Bool) → fit ≡ cond fit true false
+fits-or-not true = refl
+fits-or-not false = refl
+
+pub loop-i-init : goal.loop-i-init
+loop-i-init c = (search rules, refl)
+
+pub loop-i-preserved : goal.loop-i-preserved
+loop-i-preserved c = let was = c.loop-i in
+    let within = c.loop-i-test.true in (
+      search rules,
+      ⊎_elim
+          (λ w. rw (w.1, ← was.invariant.1, step _ _ within, le-ltb _ _ w.0.taken) (never-fits was.fit))
+          (λ w. rw (w.1, ← was.invariant.1, step _ _ within, lt-ltb _ _ w.0.left))
+          c.if-s-i-ge-CELL_RANGE.branch,
+    )
+
+pub returns : goal.returns
+unfolding cells_fit
+returns c = rw (← c.loop-i.invariant.1, drop_of_length-le _ c.loop-i-test.false) (fits-or-not _)

@@ -1,0 +1,14 @@
+use native.Mathlib.Omega.{arith}
+use Rattle.registers.specs.Reg.{iter}
+use Rattle.registers.proofs.Loops.{iter_none, iter_next}
+use Prim.Native.Nat.{◌≤◌, ◌<◌, ◌-◌, ◌^◌}
+use mathlib.Core.Path.{◌≡◌}
+use Rattle.divide.specs.Wd.{wd_step, wd_loop}
+use Rattle.std.proofs.Common.{rules}
+use Rattle.divide.proofs.steps.Given as goal
+
+abbrev pub invariant-loop-i : goal.invariant-loop-i
+invariant-loop-i l = (l.i ≤ 24) × (l.q < 2 ^ 49) × (l.q ≡ iter (wd_step l.s) l.i l.p)
+
+abbrev pub decreases-loop-i : goal.decreases-loop-i
+decreases-loop-i l = 24 - l.i

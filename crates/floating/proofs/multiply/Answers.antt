@@ -1,0 +1,7 @@
+use Rattle.floating.specs.Multiply.{fm}
+use Rattle.std.proofs.Common.{rules}
+use Rattle.floating.proofs.multiply.Goals as goal
+
+pub returns : goal.returns
+unfolding fm
+returns c = rw (← c.fetch.ensures.0, ← c.multiply_floating.ensures)

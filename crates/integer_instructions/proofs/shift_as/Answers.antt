@@ -1,0 +1,15 @@
+use Rattle.definition_instructions.specs.Codes.{execute}
+use Rattle.definition_instructions.specs.Meaning.{meaning}
+use Rattle.definition_instructions.specs.MicroOps.{execute_operation, micro_step, micro_steps, monitor_step, monitor_steps}
+use Rattle.std.proofs.Common.{rules}
+use Rattle.integer_instructions.proofs.shift_as.Goals as goal
+
+pub returns-clause-value : goal.returns-clause-value
+unfolding execute execute_operation meaning micro_steps micro_step monitor_steps monitor_step
+returns-clause-value c = rw (
+  ← c.clear_flags.ensures.value,
+  ← c.word_at-x.ensures.value,
+  ← c.arithmetic24-r.ensures.value,
+  ← c.note_overflow.ensures.value,
+  ← c.put_long.ensures,
+)

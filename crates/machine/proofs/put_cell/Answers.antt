@@ -1,0 +1,7 @@
+use mathlib.Core.Path.{sym}
+use lib.Seq.{set_out}
+use Rattle.std.proofs.Common.{rules}
+use Rattle.machine.proofs.put_cell.Goals as goal
+
+pub returns-else-j-s : goal.returns-else-j-s
+returns-else-j-s c = sym (set_out _ _ _ c.if-j-s.false)

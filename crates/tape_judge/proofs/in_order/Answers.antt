@@ -1,0 +1,12 @@
+use Rattle.definition_tape.specs.Judge.{in_order}
+use Rattle.std.proofs.Common.{rules}
+use Rattle.tape_judge.proofs.in_order.Goals as goal
+
+-- Made by tools/prove.py; not to be edited.
+pub returns-then-after : goal.returns-then-after
+unfolding in_order
+returns-then-after c = rw c.if-after.true
+
+pub returns-else-after : goal.returns-else-after
+unfolding in_order
+returns-else-after c = rw c.if-after.false

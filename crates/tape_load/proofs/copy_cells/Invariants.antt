@@ -1,0 +1,16 @@
+use Prim.Native.Nat.{◌-◌, ◌≤◌, ◌<◌}
+use mathlib.Core.Path.{◌≡◌, refl, sym, ◌∙◌}
+use mathlib.Core.List.{◌++◌}
+use native.Mathlib.Omega.{arith}
+use lib.ListN.{length, take, drop, length-set}
+use Rattle.definition_tape.specs.Layout.{cells_from}
+use Rattle.definition_tape.proofs.Loads.{length_cells, cell_at}
+use Rattle.tape_load.proofs.Loaded.{paste_more, paste_all}
+use Rattle.std.proofs.Common.{rules}
+use Rattle.tape_load.proofs.copy_cells.Given as goal
+
+abbrev pub invariant-loop-i : goal.invariant-loop-i
+invariant-loop-i l = (l.i ≤ l.initial.dst) × (length l.dst ≡ length l.p) × (l.dst ≡ take l.i (cells_from l.k 4 l.initial.dst) ++ drop l.i l.p)
+
+abbrev pub decreases-loop-i : goal.decreases-loop-i
+decreases-loop-i l = l.initial.dst - l.i

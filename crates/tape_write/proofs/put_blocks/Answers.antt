@@ -1,0 +1,85 @@
+use Prim.Native.Nat.{◌+◌, ◌-◌, ◌≤◌}
+use mathlib.Core.Path.{◌≡◌, refl, ◌∙◌}
+use native.Mathlib.Omega.{arith}
+use lib.ListN.{length}
+use Rattle.definition_tape.specs.Blocks.{store_blocks}
+use Rattle.definition_tape.specs.Bytes.{blocks_bytes}
+use Rattle.tape_write.specs.Steps.{put, blocks_after}
+use Rattle.tape_write.proofs.Passes.{blocks_all, blocks_left, size_step, put_step, part_fits, put_done}
+use Rattle.std.proofs.Common.{rules}
+use Rattle.tape_write.proofs.put_blocks.Goals as goal
+
+pub loop-at-init : goal.loop-at-init
+loop-at-init c = rw (blocks_all c.args.store.now) (omega arith, refl, refl, refl)
+
+pub bounds-store-i : goal.bounds-store-i
+bounds-store-i c = let l = c.loop-at in
+    blocks_left c.args.store.now l.i (omega (arith, l.invariant, c.requires, c.loop-at-test.true))
+
+pub zero_cells-i-requires : goal.zero_cells-i-requires
+zero_cells-i-requires c = let l = c.loop-at in
+    (blocks_left c.args.store.now l.i (omega (arith, l.invariant, c.requires, c.loop-at-test.true)), c.if-store-i-eq0.true)
+
+pub overflow_add-i : goal.overflow_add-i
+overflow_add-i c = omega (arith, c.zero_cells-i.ensures)
+
+pub loop-at-smaller-then-store-i-eq0 : goal.loop-at-smaller-then-store-i-eq0
+loop-at-smaller-then-store-i-eq0 c = omega (arith, c.zero_cells-i.ensures)
+
+pub loop-at-preserved-then-store-i-eq0 : goal.loop-at-preserved-then-store-i-eq0
+loop-at-preserved-then-store-i-eq0 c = let l = c.loop-at in
+    let z = c.zero_cells-i.ensures in
+    (omega arith, l.invariant.1, rw z.blocks l.invariant.2, rw z.blocks l.invariant.3)
+
+pub stretch_length-k-requires : goal.stretch_length-k-requires
+stretch_length-k-requires c = let l = c.loop-at in
+    (blocks_left c.args.store.now l.i (omega (arith, l.invariant, c.requires, c.loop-at-test.true)), c.if-store-i-eq0.false)
+
+pub overflow_add-end : goal.overflow_add-end
+overflow_add-end c = omega (arith, c.stretch_length-k.ensures)
+
+pub overflow_cast-i : goal.overflow_cast-i
+overflow_cast-i c = omega (arith, c.requires)
+
+pub put_stretch-requires : goal.put_stretch-requires
+put_stretch-requires c = let a = c.args in
+    let l = c.loop-at in
+    let k = c.stretch_length-k in
+    part_fits a.store.now l.i k.result k.ensures.0 k.ensures.1.1 k.ensures.1.0 l.at (length l.out) c.requires.0
+    (omega (arith, l.invariant, c.requires))
+
+pub block_size-at-requires : goal.block_size-at-requires
+block_size-at-requires c = omega (arith, c.stretch_length-k.ensures, c.requires)
+
+pub overflow_add-at : goal.overflow_add-at
+overflow_add-at c = let a = c.args in
+    let l = c.loop-at in
+    let k = c.stretch_length-k in
+    let z = size_step a.store.now l.i k.result k.ensures.0 k.ensures.1.1 k.ensures.1.0 in
+    omega (arith, l.invariant, c.requires, c.block_size-at.ensures)
+
+pub overflow_add-i-else-store-i-eq0 : goal.overflow_add-i-else-store-i-eq0
+overflow_add-i-else-store-i-eq0 c = omega (arith, c.stretch_length-k.ensures, c.requires)
+
+pub overflow_add-i-else-store-i-eq0-2 : goal.overflow_add-i-else-store-i-eq0-2
+overflow_add-i-else-store-i-eq0-2 c = omega (arith, c.stretch_length-k.ensures, c.requires)
+
+pub loop-at-smaller : goal.loop-at-smaller
+loop-at-smaller c = omega (arith, c.stretch_length-k.ensures)
+
+pub loop-at-preserved : goal.loop-at-preserved
+loop-at-preserved c = let a = c.args in
+    let s = a.store.now in
+    let l = c.loop-at in
+    let k = c.stretch_length-k in
+    let p = c.put_stretch in
+    let e = c.block_size-at.ensures in
+    let z = size_step s l.i k.result k.ensures.0 k.ensures.1.1 k.ensures.1.0 in
+    let b : l.at ≤ length l.out = omega (arith, l.invariant, c.requires) in
+    let w = put_step s l.i k.result k.ensures.0 k.ensures.1.1 k.ensures.1.0 l.out _ l.at b p.ensures in
+    (omega (arith, k.ensures), p.auto.0 ∙ l.invariant.1, omega (arith, l.invariant), rw e (w ∙ l.invariant.3))
+
+pub returns : goal.returns
+returns c = let l = c.loop-at in
+    put_done l.out _ (blocks_after c.args.store.now l.i) l.at
+    (omega (arith, l.invariant, c.loop-at-test.false, c.requires)) l.invariant.3

@@ -1,0 +1,19 @@
+use Prim.Native.Nat.{◌+◌, ◌-◌, ◌≤◌}
+use mathlib.Core.Path.{◌≡◌, refl, ◌∙◌}
+use native.Mathlib.Omega.{arith}
+use lib.ListN.{length}
+use Rattle.definition_tape.specs.Blocks.{store_blocks}
+use Rattle.definition_tape.specs.Bytes.{blocks_bytes}
+use Rattle.tape_write.specs.Steps.{put, blocks_after}
+use Rattle.tape_write.proofs.Passes.{blocks_all, blocks_left, size_step, put_step, part_fits, put_done}
+use Rattle.std.proofs.Common.{rules}
+use Rattle.tape_write.proofs.put_blocks.Given as goal
+
+abbrev pub invariant-loop-at : goal.invariant-loop-at
+invariant-loop-at l =
+    (l.i ≤ length l.initial.out + 1) × (length l.out ≡ length l.from)
+    × (l.at + length (blocks_after l.initial.out l.i) ≡ l.to + length (blocks_bytes (store_blocks l.initial.out)))
+    × (put l.out l.at (blocks_after l.initial.out l.i) ≡ put l.from l.to (blocks_bytes (store_blocks l.initial.out)))
+
+abbrev pub decreases-loop-at : goal.decreases-loop-at
+decreases-loop-at l = length l.initial.out + 1 - l.i

@@ -1,0 +1,15 @@
+use Prim.Native.Nat.{◌-◌, ◌≤◌}
+use mathlib.Core.Path.{◌≡◌, refl, ◌∙◌}
+use native.Mathlib.Omega.{arith}
+use lib.ListN.{length, take}
+use Rattle.definition_tape.specs.Bytes.{cells_bytes}
+use Rattle.tape_write.specs.Steps.{put}
+use Rattle.tape_write.proofs.Puts.{cells_none, cells_more, cells_all}
+use Rattle.std.proofs.Common.{rules}
+use Rattle.tape_write.proofs.put_cells.Given as goal
+
+abbrev pub invariant-loop-i : goal.invariant-loop-i
+invariant-loop-i l = (l.i ≤ length l.initial.out) × (length l.out ≡ length l.at) × (l.out ≡ put l.at l.cells (cells_bytes (take l.i l.initial.out)))
+
+abbrev pub decreases-loop-i : goal.decreases-loop-i
+decreases-loop-i l = length l.initial.out - l.i

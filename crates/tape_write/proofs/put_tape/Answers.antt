@@ -1,0 +1,36 @@
+use native.Mathlib.Omega.{arith}
+use Rattle.definition_tape.specs.Writing.{remark_of}
+use Rattle.tape_write.proofs.Ways.{parts_put}
+use Rattle.definition_tape.proofs.Lengths.{length_tape}
+use Rattle.std.proofs.Common.{rules}
+use Rattle.tape_write.proofs.put_tape.Goals as goal
+
+pub put_remark-requires : goal.put_remark-requires
+put_remark-requires c = let e = length_tape c.args.store.now c.args.r (remark_of c.args.given c.args.text.now) in
+    (c.requires.1, omega (arith, c.requires))
+
+pub overflow_sub-end : goal.overflow_sub-end
+overflow_sub-end c = let e = length_tape c.args.store.now c.args.r (remark_of c.args.given c.args.text.now) in
+    omega (arith, c.requires)
+
+pub put_blocks-requires : goal.put_blocks-requires
+put_blocks-requires c = let e = length_tape c.args.store.now c.args.r (remark_of c.args.given c.args.text.now) in
+    (c.requires.0, omega (arith, c.requires, c.remark_size-at.ensures), omega (arith, c.requires))
+
+pub put_control-requires : goal.put_control-requires
+put_control-requires c = let e = length_tape c.args.store.now c.args.r (remark_of c.args.given c.args.text.now) in
+    omega (arith, c.requires)
+
+pub overflow_add-end : goal.overflow_add-end
+overflow_add-end c = let e = length_tape c.args.store.now c.args.r (remark_of c.args.given c.args.text.now) in
+    omega (arith, c.requires)
+
+pub put_header-requires : goal.put_header-requires
+put_header-requires c = let e = length_tape c.args.store.now c.args.r (remark_of c.args.given c.args.text.now) in
+    omega (arith, c.requires)
+
+pub returns : goal.returns
+returns c = let e = length_tape c.args.store.now c.args.r (remark_of c.args.given c.args.text.now) in
+    parts_put _ _ _ _ _ _ _ _ _ _ c.put_remark.ensures c.remark_size-at.ensures
+    c.put_blocks.ensures (omega (arith, c.requires, c.remark_size-at.ensures)) c.put_control.ensures
+    c.put_header.ensures

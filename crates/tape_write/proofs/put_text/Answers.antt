@@ -1,0 +1,22 @@
+use Prim.Native.Nat.{◌-◌, ◌≤◌}
+use mathlib.Core.Path.{◌≡◌, refl}
+use native.Mathlib.Omega.{arith}
+use lib.ListN.{length, take, length-set}
+use Rattle.tape_write.specs.Steps.{put}
+use Rattle.tape_write.proofs.Puts.{text_none, text_more, text_all}
+use Rattle.std.proofs.Common.{rules}
+use Rattle.tape_write.proofs.put_text.Goals as goal
+
+pub loop-i-init : goal.loop-i-init
+loop-i-init c = (omega arith, refl, text_none _ _)
+
+pub loop-i-preserved : goal.loop-i-preserved
+loop-i-preserved c = let a = c.args in
+    let l = c.loop-i in
+    (omega arith, simp length-set l.invariant.1, text_more a.out.now l.out a.at l.i a.text.now (omega arith) l.invariant.1 c.loop-i-test.true l.invariant.2)
+
+pub returns : goal.returns
+returns c = let a = c.args in
+    let l = c.loop-i in
+    let all : l.i ≡ length a.text.now = omega arith in
+    text_all a.out.now l.out a.at l.i a.text.now all l.invariant.2

@@ -1,0 +1,18 @@
+use native.Mathlib.Omega.{arith}
+use Rattle.definition_tape.specs.Writing.{remark_of}
+use Rattle.tape_write.proofs.Ways.{remark_small}
+use Rattle.definition_tape.proofs.Lengths.{length_tape}
+use Rattle.std.proofs.Common.{rules}
+use Rattle.tape_write.proofs.tape_length.Goals as goal
+
+pub overflow_add-result : goal.overflow_add-result
+overflow_add-result c = let m = remark_small _ c.requires.1 in
+    omega (arith, c.blocks_length.ensures, c.remark_size.ensures)
+
+pub overflow_add-result-2 : goal.overflow_add-result-2
+overflow_add-result-2 c = let m = remark_small _ c.requires.1 in
+    omega (arith, c.blocks_length.ensures, c.remark_size.ensures)
+
+pub returns : goal.returns
+returns c = let e = length_tape c.args.store.now c.args.r (remark_of c.args.given c.args.text.now) in
+    omega (arith, c.blocks_length.ensures.value, c.remark_size.ensures)
