@@ -11,6 +11,7 @@ use borrow.Author.Tests.{lt-ltb, le-ltb}
 use Rattle.acceptance.specs.Accept.{cells_fit}
 use Rattle.std.proofs.Common.{rules}
 use Rattle.acceptance.proofs.cells_fit.Goals as goal
+use Rattle.acceptance.proofs.cells_fit.Goals.{then-s-i-ge-CELL_RANGE, else-s-i-ge-CELL_RANGE}
 
 step : (s : List ℕ) (i : ℕ) → i < length s
     → cells_fit (drop i s) ≡ cond (ltb (get_or s i 0) 134217728) (cells_fit (drop (i + 1) s)) false
@@ -32,10 +33,10 @@ pub loop-i-preserved : goal.loop-i-preserved
 loop-i-preserved c = let was = c.loop-i in
     let within = c.loop-i-test.true in (
       search rules,
-      ⊎_elim
-          (λ w. rw (w.1, ← was.invariant.1, step _ _ within, le-ltb _ _ w.0.taken) (never-fits was.fit))
-          (λ w. rw (w.1, ← was.invariant.1, step _ _ within, lt-ltb _ _ w.0.left))
-          c.if-s-i-ge-CELL_RANGE.branch,
+      elim c.if-s-i-ge-CELL_RANGE.branch [
+        | then-s-i-ge-CELL_RANGE w ↦ rw (w.fit-is, ← was.invariant.1, step _ _ within, le-ltb _ _ w.if-s-i-ge-CELL_RANGE.true) (never-fits was.fit)
+        | else-s-i-ge-CELL_RANGE w ↦ rw (w.fit-is, ← was.invariant.1, step _ _ within, lt-ltb _ _ w.if-s-i-ge-CELL_RANGE.false)
+      ],
     )
 
 pub returns : goal.returns

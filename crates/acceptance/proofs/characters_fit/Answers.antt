@@ -11,6 +11,7 @@ use borrow.Author.Tests.{lt-ltb, le-ltb}
 use Rattle.acceptance.specs.Accept.{characters_fit}
 use Rattle.std.proofs.Common.{rules}
 use Rattle.acceptance.proofs.characters_fit.Goals as goal
+use Rattle.acceptance.proofs.characters_fit.Goals.{then-s-i-ge64, else-s-i-ge64}
 
 step : (s : List ℕ) (i : ℕ) → i < length s
     → characters_fit (drop i s) ≡ cond (ltb (get_or s i 0) 64) (characters_fit (drop (i + 1) s)) false
@@ -32,10 +33,10 @@ pub loop-i-preserved : goal.loop-i-preserved
 loop-i-preserved c = let was = c.loop-i in
     let within = c.loop-i-test.true in (
       search rules,
-      ⊎_elim
-          (λ w. rw (w.1, ← was.invariant.1, step _ _ within, le-ltb _ _ w.0.taken) (never-fits was.fit))
-          (λ w. rw (w.1, ← was.invariant.1, step _ _ within, lt-ltb _ _ w.0.left))
-          c.if-s-i-ge64.branch,
+      elim c.if-s-i-ge64.branch [
+        | then-s-i-ge64 w ↦ rw (w.fit-is, ← was.invariant.1, step _ _ within, le-ltb _ _ w.if-s-i-ge64.true) (never-fits was.fit)
+        | else-s-i-ge64 w ↦ rw (w.fit-is, ← was.invariant.1, step _ _ within, lt-ltb _ _ w.if-s-i-ge64.false)
+      ],
     )
 
 pub returns : goal.returns

@@ -6,14 +6,14 @@ pub returns-then-not-devices_fit : goal.returns-then-not-devices_fit
 returns-then-not-devices_fit c = rw (
   c.in-Accepted.is,
   ← c.devices_fit.ensures,
-  not-true c.devices_fit.result c.if-not-devices_fit.true,
+  c.if-not-devices_fit.true,
 )
 
 pub returns-else-not-devices_fit : goal.returns-else-not-devices_fit
 returns-else-not-devices_fit c = rw (
   c.in-Accepted.is,
   ← c.devices_fit.ensures,
-  not-false c.devices_fit.result c.if-not-devices_fit.false,
+  c.if-not-devices_fit.false,
 )
 
 pub returns-in-Rejected : goal.returns-in-Rejected

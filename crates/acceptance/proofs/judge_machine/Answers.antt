@@ -9,7 +9,7 @@ returns-then-not-timer_fits c = rw (
   ← c.judge_registers-v.ensures,
   c.in-Accepted.is,
   ← c.timer_fits.ensures,
-  not-true c.timer_fits.result c.if-not-timer_fits.true,
+  c.if-not-timer_fits.true,
 )
 
 pub returns-else-not-timer_fits : goal.returns-else-not-timer_fits
@@ -18,7 +18,7 @@ returns-else-not-timer_fits c = rw (
   ← c.judge_registers-v.ensures,
   c.in-Accepted.is,
   ← c.timer_fits.ensures,
-  not-false c.timer_fits.result c.if-not-timer_fits.false,
+  c.if-not-timer_fits.false,
 )
 
 pub returns-in-Rejected : goal.returns-in-Rejected

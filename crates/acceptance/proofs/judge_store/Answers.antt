@@ -5,22 +5,22 @@ use Rattle.acceptance.proofs.judge_store.Goals as goal
 
 pub returns-then-not-size_fits : goal.returns-then-not-size_fits
 unfolding judge_store
-returns-then-not-size_fits c = rw (← c.size_fits.ensures, not-true c.size_fits.result c.if-not-size_fits.true)
+returns-then-not-size_fits c = rw (← c.size_fits.ensures, c.if-not-size_fits.true)
 
 pub returns-then-not-cells_fit : goal.returns-then-not-cells_fit
 unfolding judge_store
 returns-then-not-cells_fit c = rw (
   ← c.size_fits.ensures,
-  not-false c.size_fits.result c.if-not-size_fits.false,
+  c.if-not-size_fits.false,
   ← c.cells_fit.ensures,
-  not-true c.cells_fit.result c.if-not-cells_fit.true,
+  c.if-not-cells_fit.true,
 )
 
 pub returns : goal.returns
 unfolding judge_store
 returns c = rw (
   ← c.size_fits.ensures,
-  not-false c.size_fits.result c.if-not-size_fits.false,
+  c.if-not-size_fits.false,
   ← c.cells_fit.ensures,
-  not-false c.cells_fit.result c.if-not-cells_fit.false,
+  c.if-not-cells_fit.false,
 )

@@ -13,7 +13,7 @@ pub returns-then-not-has : goal.returns-then-not-has
 returns-then-not-has c = ends_open c.args.text.now c.args.indirect _ c.args.n c.if-not-indirect.false c.has.ensures c.if-not-has.true
 
 pub overflow_add-result : goal.overflow_add-result
-overflow_add-result c = let i = inside_eq c.args.text.now c.args.n 93 (omega arith) (sym c.has.ensures ∙ not-false _ c.if-not-has.false) in omega arith
+overflow_add-result c = let i = inside_eq c.args.text.now c.args.n 93 (omega arith) (sym c.has.ensures ∙ c.if-not-has.false) in omega arith
 
 pub returns : goal.returns
 returns c = ends_closed c.args.text.now c.args.indirect _ c.args.n c.if-not-indirect.false c.has.ensures c.if-not-has.false

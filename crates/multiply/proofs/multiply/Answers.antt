@@ -14,6 +14,6 @@ pub overflow_cast-x : goal.overflow_cast-x
 overflow_cast-x c = let a = c.args in
     rw (c.signed_number-x.ensures, c.signed_number-y.ensures, sum_read a.w a.s) (tt, product_below a.w a.s)
 
-pub returns : goal.returns
-returns c = rw (c.last_48_bits.ensures, c.signed_number-x.ensures, c.signed_number-y.ensures, sum_read c.args.w c.args.s)
-    (sym (steps_product c.args.w c.args.s c.requires.0 c.requires.1), search rules)
+pub returns-clause-value : goal.returns-clause-value
+returns-clause-value c = rw (c.last_48_bits.ensures, c.signed_number-x.ensures, c.signed_number-y.ensures, sum_read c.args.w c.args.s)
+    (sym (steps_product c.args.w c.args.s c.requires.0 c.requires.1))

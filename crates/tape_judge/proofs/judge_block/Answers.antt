@@ -10,16 +10,16 @@ returns-then-first-k c = rw (← c.number_at-first.ensures, lt-leb _ _ c.if-firs
 
 pub returns-then-not-unnamed : goal.returns-then-not-unnamed
 unfolding judge_block block_cells
-returns-then-not-unnamed c = rw (← c.number_at-first.ensures, le-leb _ _ c.if-first-k.false, not-true c.args.unnamed c.if-not-unnamed.true)
+returns-then-not-unnamed c = rw (← c.number_at-first.ensures, le-leb _ _ c.if-first-k.false, c.if-not-unnamed.true)
 
 pub returns-then-not-block_cells_fit : goal.returns-then-not-block_cells_fit
 unfolding judge_block block_cells
 returns-then-not-block_cells_fit c = rw (
   ← c.number_at-first.ensures,
   le-leb _ _ c.if-first-k.false,
-  not-false c.args.unnamed c.if-not-unnamed.false,
+  c.if-not-unnamed.false,
   ← c.block_cells_fit.ensures,
-  not-true c.block_cells_fit.result c.if-not-block_cells_fit.true,
+  c.if-not-block_cells_fit.true,
 )
 
 pub returns : goal.returns
@@ -27,7 +27,7 @@ unfolding judge_block block_cells
 returns c = rw (
   ← c.number_at-first.ensures,
   le-leb _ _ c.if-first-k.false,
-  not-false c.args.unnamed c.if-not-unnamed.false,
+  c.if-not-unnamed.false,
   ← c.block_cells_fit.ensures,
-  not-false c.block_cells_fit.result c.if-not-block_cells_fit.false,
+  c.if-not-block_cells_fit.false,
 )

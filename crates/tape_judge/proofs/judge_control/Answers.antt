@@ -5,24 +5,24 @@ use Rattle.tape_judge.proofs.judge_control.Goals as goal
 
 pub returns-then-not-control_good : goal.returns-then-not-control_good
 unfolding judge_control
-returns-then-not-control_good c = rw (← c.control_good.ensures, not-true c.control_good.result c.if-not-control_good.true)
+returns-then-not-control_good c = rw (← c.control_good.ensures, c.if-not-control_good.true)
 
 pub returns-then-not-timer_fits : goal.returns-then-not-timer_fits
 unfolding judge_control
 returns-then-not-timer_fits c = rw (
   ← c.control_good.ensures,
-  not-false c.control_good.result c.if-not-control_good.false,
+  c.if-not-control_good.false,
   ← c.timer_of-t.ensures,
   ← c.timer_fits.ensures,
-  not-true c.timer_fits.result c.if-not-timer_fits.true,
+  c.if-not-timer_fits.true,
 )
 
 pub returns : goal.returns
 unfolding judge_control
 returns c = rw (
   ← c.control_good.ensures,
-  not-false c.control_good.result c.if-not-control_good.false,
+  c.if-not-control_good.false,
   ← c.timer_of-t.ensures,
   ← c.timer_fits.ensures,
-  not-false c.timer_fits.result c.if-not-timer_fits.false,
+  c.if-not-timer_fits.false,
 )

@@ -17,10 +17,10 @@ loop-n-init c = (omega arith, omega arith, c.requires.0, record { rest = refl },
 
 pub returns-then-not-whole : goal.returns-then-not-whole
 returns-then-not-whole c = let l = c.loop-n in
-    searched _ _ _ _ _ _ l.invariant.1 l.invariant.4 l.invariant.5 (inr (stop_at _ _ _ l.invariant.3 (sym c.whole.ensures ∙ not-true _ c.if-not-whole.true)))
+    searched _ _ _ _ _ _ l.invariant.1 l.invariant.4 l.invariant.5 (inr (stop_at _ _ _ l.invariant.3 (sym c.whole.ensures ∙ c.if-not-whole.true)))
 
 pub cells_named-c-requires : goal.cells_named-c-requires
-cells_named-c-requires c = sym c.whole.ensures ∙ not-false _ c.if-not-whole.false
+cells_named-c-requires c = sym c.whole.ensures ∙ c.if-not-whole.false
 
 pub mark_cells-requires : goal.mark_cells-requires
 mark_cells-requires c = c.loop-n.invariant.2
@@ -28,17 +28,17 @@ mark_cells-requires c = c.loop-n.invariant.2
 pub returns-then-mark_cells : goal.returns-then-mark_cells
 returns-then-mark_cells c = let l = c.loop-n in
     let d = c.cells_named-c.ensures in
-    let w = sym c.whole.ensures ∙ not-false _ c.if-not-whole.false in
+    let w = sym c.whole.ensures ∙ c.if-not-whole.false in
     let m = c.mark_cells.ensures.met c.if-mark_cells.true _ w d in
     searched _ _ _ _ _ _ l.invariant.1 l.invariant.4 l.invariant.5 (inr (stop_again _ _ _ _ _ l.invariant.3 w l.invariant.4 m))
 
 pub record_length-requires : goal.record_length-requires
-record_length-requires c = omega (arith, whole_fits _ (sym c.whole.ensures ∙ not-false _ c.if-not-whole.false))
+record_length-requires c = omega (arith, whole_fits _ (sym c.whole.ensures ∙ c.if-not-whole.false))
 
 pub loop-n-preserved : goal.loop-n-preserved
 loop-n-preserved c = let l = c.loop-n in
     let d = c.cells_named-c.ensures in
-    let w = sym c.whole.ensures ∙ not-false _ c.if-not-whole.false in
+    let w = sym c.whole.ensures ∙ c.if-not-whole.false in
     let m = c.mark_cells.ensures in
     let r = c.record_length.ensures.value in (
       passed_within _ _ _ l.invariant.3 w _ r,

@@ -17,18 +17,18 @@ pub returns-then-not-whole : goal.returns-then-not-whole
 returns-then-not-whole c = absurd (false≢true z)
 
 pub cells_named-c-requires : goal.cells_named-c-requires
-cells_named-c-requires c = sym c.whole.ensures ∙ not-false _ c.if-not-whole.false
+cells_named-c-requires c = sym c.whole.ensures ∙ c.if-not-whole.false
 
 pub returns-then-c-high : goal.returns-then-c-high
 returns-then-c-high c = absurd (false≢true z)
 
 pub record_length-requires : goal.record_length-requires
-record_length-requires c = omega (arith, whole_fits _ (sym c.whole.ensures ∙ not-false _ c.if-not-whole.false))
+record_length-requires c = omega (arith, whole_fits _ (sym c.whole.ensures ∙ c.if-not-whole.false))
 
 pub loop-at-preserved : goal.loop-at-preserved
 loop-at-preserved c = let l = c.loop-at in
     let n = c.cells_named-c in
-    let w = sym c.whole.ensures ∙ not-false _ c.if-not-whole.false in
+    let w = sym c.whole.ensures ∙ c.if-not-whole.false in
     let r = c.record_length.ensures.value in
     let s : Rises n.result l.high c.if-c.high =
     ⊎_elim

@@ -5,12 +5,12 @@ use Rattle.tape_remark.proofs.judge_reading.Goals as goal
 
 pub returns-then-not-size_fits : goal.returns-then-not-size_fits
 unfolding judge_reading
-returns-then-not-size_fits c = rw (← c.size_fits.ensures, not-true c.size_fits.result c.if-not-size_fits.true)
+returns-then-not-size_fits c = rw (← c.size_fits.ensures, c.if-not-size_fits.true)
 
 pub returns : goal.returns
 unfolding judge_reading
 returns c = rw (
   ← c.size_fits.ensures,
-  not-false c.size_fits.result c.if-not-size_fits.false,
+  c.if-not-size_fits.false,
   ← c.judge_tape.ensures,
 )
