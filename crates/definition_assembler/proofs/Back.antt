@@ -8,7 +8,7 @@ use native.Mathlib.Nat.{add-zero}
 use native.Mathlib.Numerals.{add-one}
 use borrow.Author.Tests.{eqb-true}
 use lib.ListN.{length, get_or, drop, length-append}
-use lib.Seq.{drop-cons, drop_drop, drop-append_seam, get_or-drop}
+use lib.Seq.{drop-cons, drop-drop, drop-append_seam, get_or-drop}
 use lib.Dec.{eqb}
 use Rattle.definition_assembler.specs.Grammar.{Digit, Sum, Product, Primary, term, plus, minus, factor, times, number, group, digit_byte, digit_bytes, sum_bytes, product_bytes, primary_bytes}
 use Rattle.definition_assembler.specs.Reader.{Actions, Left, Nothing, Plus, Minus, Times, Nonterminal, sum_at, product_at, primary_at, Parsed, parsed, is_digit, combined, number_at, closed, sum_on, product_on, sum_after, product_after, parse, of_sum, of_product, of_primary}
@@ -21,10 +21,10 @@ module _ (t : List ℕ) where
   front at x h = ap (λ n. get_or t n 0) (sym (add-zero at)) ∙ sym (get_or-drop at t 0 0) ∙ ap (λ l. get_or l 0 0) h
 
   pub next : (at b : ℕ) (x : List ℕ) → drop at t ≡ b ∷ x → drop (at + 1) t ≡ x
-  next at b x h = sym (drop_drop 1 at t) ∙ ap (drop 1) h
+  next at b x h = sym (drop-drop 1 at t) ∙ ap (drop 1) h
 
   pub passed : (at : ℕ) (l x : List ℕ) → drop at t ≡ l ++ x → drop (at + length l) t ≡ x
-  passed at l x h = sym (drop_drop (length l) at t) ∙ ap (drop (length l)) h ∙ drop-append_seam l x
+  passed at l x h = sym (drop-drop (length l) at t) ∙ ap (drop (length l)) h ∙ drop-append_seam l x
 
   pub cut : (n c : ℕ) → 0 < c → eqb (get_or t n 0) c ≡ true → drop n t ≡ c ∷ drop (n + 1) t
   cut n c h e = drop-cons t n 0 (inside_eq t n c h e) ∙ ap₂ ◌∷◌ (eqb-true (get_or t n 0) c e) (ap (λ k. drop k t) (sym (add-one n)))

@@ -5,7 +5,7 @@ use mathlib.Core.Bool.{true}
 use mathlib.Core.List.{List, [], ◌∷◌, ◌++◌, append_assoc}
 use native.Mathlib.Omega.{arith}
 use lib.ListN.{length, get_or, drop}
-use lib.Seq.{drop_drop}
+use lib.Seq.{drop-drop}
 use lib.Dec.{eqb}
 use Rattle.definition_assembler.specs.Grammar.{Sum, Product, Primary, term, plus, minus, factor, times, number, group, digit_bytes, sum_bytes, product_bytes, primary_bytes}
 use Rattle.definition_assembler.specs.Reader.{Actions, Left, Nothing, Plus, Minus, Times, Nonterminal, sum_at, product_at, primary_at, Parsed, failed, parsed, digits, combined, number_at, closed, sum_after, product_after, step, parse_within, measure, parse, of_sum, of_product, of_primary}
@@ -80,7 +80,7 @@ module _ {A : Type 0} (M : Actions A) (t : List ℕ) where
       let f : drop at t ≡ (b ∷ bs) ++ drop (length (b ∷ bs)) (drop at t) = digits_front (drop at t) ∙ ap (λ l. l ++ drop (length l) (drop at t)) e in (
         number (to_digit b) (to_digits bs),
         ap₂ M.of_number (sym (ap (λ l. get_or l 0 0) g)) (sym (ap (drop 1) g)),
-        f ∙ ap₂ ◌++◌ (sym g) (drop_drop (length (b ∷ bs)) at t),
+        f ∙ ap₂ ◌++◌ (sym g) (drop-drop (length (b ∷ bs)) at t),
       )
 
   closed_sound : (at : ℕ) → eqb (get_or t at 0) 40 ≡ true → (x : Parsed A) → SumRead [] (at + 1) x → PrimaryRead at (closed M t x)

@@ -7,7 +7,7 @@ use native.Mathlib.Nat.{div-div-eq-div-mul, mod-eq_of_lt}
 use native.Mathlib.Omega.{arith}
 use borrow.Author.Tests.{ltb-true}
 use lib.ListN.{length, get_or, length-append}
-use lib.Seq.{take-append_seam, drop-append_seam, drop_drop, get_or-append-add}
+use lib.Seq.{take-append_seam, drop-append_seam, drop-drop, get_or-append-add}
 use lib.Dec.{eqb, ltb}
 use Rattle.machine.specs.declared.Control.{Control}
 use Rattle.machine.specs.declared.Timer.{Timer}
@@ -65,7 +65,7 @@ reads k p t hk hp =
       size = s;
       kind = omega arith;
       payload = rw s (take-append_seam p t);
-      rest = rw s (sym (drop_drop (length p) 6 (record_bytes k p ++ t)) ∙ drop-append_seam p t);
+      rest = rw s (sym (drop-drop (length p) 6 (record_bytes k p ++ t)) ∙ drop-append_seam p t);
       whole = simp length-append (omega arith);
     }
 

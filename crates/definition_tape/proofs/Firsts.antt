@@ -8,7 +8,7 @@ use native.Mathlib.Decide.{ℕ_discrete}
 use native.Mathlib.Nat.{add-sub_cancel_left}
 use borrow.Author.Tests.{eq-eqb, ne_eqb, ltb-true, ltb-false, leb-true, leb-false}
 use lib.ListN.{length, take, drop, length-drop, drop_of_length-le}
-use lib.Seq.{drop_drop}
+use lib.Seq.{drop-drop}
 use lib.Dec.{ltb, leb}
 use Rattle.definition_tape.specs.Layout.{length_of, kind_of, payload_of, rest_of, records_of, first_of}
 use Rattle.definition_tape.proofs.Records.{length_rest, records_none, records_more}
@@ -43,7 +43,7 @@ suffix_drop n m t h s =
     let z : n + (length (drop n t) - length m) ≡ length t - length m = omega (arith, s.size) in
     record {
       size = omega (arith, s.size);
-      is = s.is ∙ drop_drop (length (drop n t) - length m) n t ∙ ap (λ (j : ℕ). drop j t) z;
+      is = s.is ∙ drop-drop (length (drop n t) - length m) n t ∙ ap (λ (j : ℕ). drop j t) z;
       header = s.header;
     }
 
@@ -76,4 +76,4 @@ pub part_is : (m t : List ℕ) → Suffix m t → take (length t - length m + 6 
 unfolding payload_of
 part_is m t s =
     rw add-sub_cancel_left
-    (ap (take (length_of m)) (sym (drop_drop 6 (length t - length m) t) ∙ ap (drop 6) (sym s.is)))
+    (ap (take (length_of m)) (sym (drop-drop 6 (length t - length m) t) ∙ ap (drop 6) (sym s.is)))

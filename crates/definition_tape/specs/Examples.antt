@@ -207,9 +207,11 @@ touching = (at, (by, (λ i n m. m, tt)))
     at : (i : ℕ) → Names (pair_at 2) i → Names (pair_at 4) i ⊎ (Names (pair_at 0) i ⊎ ⊥) → ⊥
     at i n (inl m) = omega (arith, n.below, m.from)
     at i n (inr (inl m)) = omega (arith, n.from, m.below)
+    at i n (inr (inr x)) = elim x [ ]
 
     by : (i : ℕ) → Names (pair_at 4) i → Names (pair_at 0) i ⊎ ⊥ → ⊥
     by i n (inl m) = omega (arith, n.from, m.below)
+    by i n (inr x) = elim x [ ]
 
 pub overlapping : (NamedOnce (pair_at 2 ∷ pair_at 6 ∷ pair_at 3 ∷ []) → ⊥) × (NamedOnce (pair_at 2 ∷ pair_at 6 ∷ pair_at 1 ∷ []) → ⊥)
 unfolding NamedOnce Named

@@ -7,7 +7,7 @@ use native.Mathlib.Omega.{arith}
 use native.Mathlib.Decide.{ℕ_discrete}
 use borrow.Author.Tests.{ltb-true, ltb-false, leb-true, eqb-true, le-ltb, le-leb, eq-eqb, ne_eqb}
 use lib.ListN.{length, take, drop, get_or, length-drop}
-use lib.Seq.{drop_drop}
+use lib.Seq.{drop-drop}
 use lib.Dec.{ltb, leb, eqb}
 use Rattle.machine.specs.declared.Refusal.TheVariants.{TapeEnds, RecordOrder, BlockCell, BlockOverlap}
 use Rattle.machine.specs.declared.Verdict.{Verdict}
@@ -235,10 +235,10 @@ module _ (cells : ℕ) (tape : List ℕ) (first at n : ℕ) (after : Bool) (f : 
           m,
           record {
             inside = omega arith;
-            passed = record { rest = sym (left (records_of tape) n t (records_of (rest_of t)) (next six) ∙ ap records_of (rw (← e) (drop_drop k at tape))) };
+            passed = record { rest = sym (left (records_of tape) n t (records_of (rest_of t)) (next six) ∙ ap records_of (rw (← e) (drop-drop k at tape))) };
             below = omega arith;
             earlier = t ∷ j.earlier;
             times = λ i. omega (arith, j.times i, times (records_of tape) n t (records_of (rest_of t)) (next six) i);
-            same = rw (← drop_drop k at tape) (sym (judge_is cells j.earlier t after ∙ ap (follow cells j.earlier t) (judged_at ∙ d)) ∙ j.same);
+            same = rw (← drop-drop k at tape) (sym (judge_is cells j.earlier t after ∙ ap (follow cells j.earlier t) (judged_at ∙ d)) ∙ j.same);
           },
         )

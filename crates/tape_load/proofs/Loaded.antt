@@ -6,7 +6,7 @@ use native.Mathlib.Numerals.{add-one}
 use native.Mathlib.Omega.{arith}
 use borrow.Author.Tests.{eq-eqb}
 use lib.ListN.{length, take, drop, get_or, set, replicate, length-take, length-drop, drop_of_length-le}
-use lib.Seq.{take-suc, drop-cons, drop_drop, set_at, append_snoc, take_all}
+use lib.Seq.{take-suc, drop-cons, drop-drop, set_at, append_snoc, take_all}
 use Rattle.machine.specs.declared.Record.{Record}
 use Rattle.machine.specs.declared.Refusal.{Refusal}
 use Rattle.machine.specs.declared.State.{State}
@@ -75,7 +75,7 @@ module _ (n : ℕ) (t : List ℕ) (at : ℕ) (a : Ahead n (drop at t)) where
   module _ (r k : ℕ) (e : r ≡ 6 + length_of (take (length t - at) (drop at t))) (q : k ≡ kind_of (take (length t - at) (drop at t))) (o : k ≡ 2 → ⊥) where
     rest_at : rest_of (drop at t) ≡ drop (at + r) t
     unfolding rest_of
-    rest_at = drop_drop (6 + length_of (drop at t)) at t ∙ ap (λ (j : ℕ). drop (at + j) t) (sym (rw (tail at t) at e))
+    rest_at = drop-drop (6 + length_of (drop at t)) at t ∙ ap (λ (j : ℕ). drop (at + j) t) (sym (rw (tail at t) at e))
 
     other : kind_of (drop at t) ≡ 2 → ⊥
     other z = o (q ∙ rw (tail at t) z)

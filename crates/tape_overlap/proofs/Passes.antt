@@ -10,7 +10,7 @@ use native.Mathlib.Omega.{arith}
 use native.Mathlib.Decide.{dec_lt}
 use borrow.Author.Tests.{ltb-true, ltb-false}
 use lib.ListN.{length, take, drop, get_or, length-drop}
-use lib.Seq.{take-suc, drop-cons, drop_drop, take_all}
+use lib.Seq.{take-suc, drop-cons, drop-drop, take_all}
 use lib.Dec.{ltb}
 use Rattle.definition_tape.specs.Layout.{length_of, rest_of, records_of}
 use Rattle.definition_tape.specs.Judge.{names, times_named}
@@ -81,7 +81,7 @@ module _ (tape : List ℕ) (at n : ℕ) (p : Passed tape at n) (w : is_whole (le
   unfolding rest_of
   passed_next r e =
       let next : drop (6 + length_of (drop at tape)) (drop at tape) ≡ drop (at + (6 + r)) tape =
-      drop_drop (6 + length_of (drop at tape)) at tape ∙ ap (λ (j : ℕ). drop (at + (6 + j)) tape) (sym (rw (tail at tape) at e)) in
+      drop-drop (6 + length_of (drop at tape)) at tape ∙ ap (λ (j : ℕ). drop (at + (6 + j)) tape) (sym (rw (tail at tape) at e)) in
       record { rest = ap records_of (sym next) ∙ sym (left (records_of tape) n (drop at tape) _ here) }
 
 -- ---- blocks that rise: no cell from `high` on is named so far

@@ -11,7 +11,7 @@ use Rattle.machine.specs.declared.Record.{Record}
 use Rattle.machine.specs.declared.Refusal.TheVariants.{CellValue, StoreSize}
 use Rattle.machine.specs.declared.Verdict.{Verdict}
 use Rattle.machine.specs.declared.Verdict.TheVariants.{Accepted, Rejected}
-use Rattle.acceptance.proofs.Tests.{Passed, refused}
+use Rattle.acceptance.proofs.Tests.{passed, refused}
 use Rattle.acceptance.specs.Accept.{size_fits, cells_fit, judge_store, judge_registers, judge_machine}
 use Rattle.definition_tape.specs.Layout.{records_of, timer_of, control_record_of}
 use Rattle.definition_tape.specs.Judge.{judge_tape, times_named}
@@ -140,8 +140,8 @@ kept_all k t s c q = rw (called_is k t s c) (at (judge_load t s))
 store_fits : (s : List ℕ) → judge_store s ≡ Accepted → (size_fits (length s) ≡ true) × (cells_fit s ≡ true)
 unfolding judge_store
 store_fits s e =
-    let a = Passed (size_fits (length s)) (cond (cells_fit s) Accepted (Rejected CellValue)) StoreSize e in
-    (a.0, (Passed (cells_fit s) Accepted CellValue a.1).0)
+    let a = passed (size_fits (length s)) (cond (cells_fit s) Accepted (Rejected CellValue)) StoreSize e in
+    (a.0, (passed (cells_fit s) Accepted CellValue a.1).0)
 
 fit_zeros : (n : ℕ) → cells_fit (replicate n 0) ≡ true
 unfolding cells_fit

@@ -8,7 +8,7 @@ use native.Mathlib.Omega.{arith}
 use native.Mathlib.Decide.{ℕ_discrete}
 use borrow.Author.Tests.{le-leb, le-ltb, lt-ltb, eq-eqb, ne_eqb, leb-true, eqb-true, ltb-true, ltb-false}
 use lib.ListN.{length, take, drop, get_or, length-append, length-take, take-append-drop, get_or-append}
-use lib.Seq.{take-append_seam, drop-append_seam, drop_drop, get_or-take}
+use lib.Seq.{take-append_seam, drop-append_seam, drop-drop, get_or-take}
 use lib.Dec.{leb, ltb, eqb}
 use Rattle.machine.specs.declared.Timer.{Timer}
 use Rattle.machine.specs.declared.Verdict.TheVariants.{Accepted}
@@ -27,7 +27,7 @@ parts : (t : List ℕ) → t ≡ take 6 t ++ (payload_of t ++ rest_of t)
 unfolding payload_of rest_of
 parts t =
     sym (take-append-drop 6 t)
-    ∙ ap (◌++◌ (take 6 t)) (sym (take-append-drop (length_of t) (drop 6 t)) ∙ ap (◌++◌ (take (length_of t) (drop 6 t))) (drop_drop (length_of t) 6 t))
+    ∙ ap (◌++◌ (take 6 t)) (sym (take-append-drop (length_of t) (drop 6 t)) ∙ ap (◌++◌ (take (length_of t) (drop 6 t))) (drop-drop (length_of t) 6 t))
 
 front : (t : List ℕ) (i : ℕ) → i < 6 → get_or (take 6 t) i 0 ≡ get_or t i 0
 front t i h = get_or-take 6 t i 0 h
@@ -160,7 +160,7 @@ reads h p t k d =
       size = s;
       kind = kind_is h (p ++ t) b ∙ d.kind;
       payload = rw (s, payload_at h (p ++ t) b) (take-append_seam p t);
-      rest = rw s (sym (drop_drop (length p) 6 (h ++ (p ++ t))) ∙ ap (drop (length p)) (payload_at h (p ++ t) b) ∙ drop-append_seam p t);
+      rest = rw s (sym (drop-drop (length p) 6 (h ++ (p ++ t))) ∙ ap (drop (length p)) (payload_at h (p ++ t) b) ∙ drop-append_seam p t);
       whole = simp length-append (omega arith);
     }
 

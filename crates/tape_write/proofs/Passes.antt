@@ -9,7 +9,7 @@ use native.Mathlib.Nat.{add-sub_cancel_left}
 use borrow.Author.Tests.{leb-true, leb-false}
 use lib.Dec.{leb, eqb-suc-zero}
 use lib.ListN.{length, take, drop, get_or, length-append, length-drop, drop_of_length-le}
-use lib.Seq.{drop-cons, drop_drop, length-take-le}
+use lib.Seq.{drop-cons, drop-drop, length-take-le}
 use Rattle.definition_tape.specs.Blocks.{Block, stretch, blocks_from, store_blocks}
 use Rattle.definition_tape.specs.Bytes.{record_bytes, block_bytes, blocks_bytes}
 use Rattle.tape_write.specs.Steps.{put, blocks_after, all_zero, stretch_bytes, block_size}
@@ -76,7 +76,7 @@ module _ (s : List ℕ) (i k : ℕ) (e : k ≡ length (stretch (drop i s))) (p :
 
   pub blocks_step : blocks_after s i ≡ stretch_bytes i (take k (drop i s)) ++ blocks_after s (i + (k + 1))
   unfolding blocks_after
-  blocks_step = rw stretch_is (step i (drop i s) (omega arith) ∙ rw (← e, drop_drop (k + 1) i s))
+  blocks_step = rw stretch_is (step i (drop i s) (omega arith) ∙ rw (← e, drop-drop (k + 1) i s))
 
 -- past several that are zero
 past_zeros : (k i : ℕ) (q : List ℕ) → all_zero (take k q) ≡ true → blocks_from false (i + k) (drop k q) ≡ blocks_from false i q
@@ -88,7 +88,7 @@ past_zeros (suc k) i (suc x ∷ q) e = absurd (true≢false (sym (rw (eqb-suc-ze
 
 pub blocks_zeros : (s : List ℕ) (i k : ℕ) → all_zero (take k (drop i s)) ≡ true → blocks_after s (i + k) ≡ blocks_after s i
 unfolding blocks_after
-blocks_zeros s i k e = ap blocks_bytes (rw (← (drop_drop k i s)) (past_zeros k i (drop i s) e))
+blocks_zeros s i k e = ap blocks_bytes (rw (← (drop-drop k i s)) (past_zeros k i (drop i s) e))
 
 -- past one
 pub blocks_zero : (s : List ℕ) (i : ℕ) → i < length s → get_or s i 0 ≡ 0 → blocks_after s (i + 1) ≡ blocks_after s i

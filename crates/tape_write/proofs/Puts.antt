@@ -6,7 +6,7 @@ use native.Mathlib.Numerals.{add-one, add-two, add-three}
 use native.Mathlib.Nat.{mod-eq_of_lt}
 use native.Mathlib.Omega.{arith}
 use lib.ListN.{length, take, drop, get_or, set, length-append, length-take, length-drop, take-append-drop}
-use lib.Seq.{take_at, drop_at, drop_drop, length-take-le, set_split, sets-eq, take-suc, take-length}
+use lib.Seq.{take_at, drop_at, drop-drop, length-take-le, set_split, sets-eq, take-suc, take-length}
 use Rattle.machine.specs.declared.Timer.{Timer}
 use Rattle.machine.specs.declared.Record.{Record}
 use Rattle.definition_tape.specs.Bytes.{bytes2, bytes4, header_bytes, record_bytes, cells_bytes, block_bytes, state_bytes, timer_bytes, control_bytes}
@@ -25,9 +25,9 @@ put_put o at a b h =
     let n : length (a ++ b) ≡ length a + length b = length-append a b in
     let k : at + length a + length b ≡ at + (length a + length b) = omega arith in
     let d : drop (at + length a + length b) (p ++ a ++ r) ≡ drop (at + (length a + length b)) o =
-    sym (drop_drop (length b) (at + length a) (p ++ a ++ r))
+    sym (drop-drop (length b) (at + length a) (p ++ a ++ r))
     ∙ ap (drop (length b)) (drop_at (p ++ a) r (at + length a) l)
-    ∙ drop_drop (length b) (at + length a) o
+    ∙ drop-drop (length b) (at + length a) o
     ∙ ap (λ (x : ℕ). drop x o) k in
     rw (sym (append_assoc p a r), take_at (p ++ a) r (at + length a) l, d, n)
     (append_assoc p a _ ∙ ap (◌++◌ p) (sym (append_assoc a b _)))

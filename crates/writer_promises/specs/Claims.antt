@@ -15,7 +15,7 @@ use Rattle.definition_tape.specs.Blocks.{Block, Named, store_blocks}
 use Rattle.definition_tape.specs.Bytes.{bytes4, control_bytes, TimerWidths, tape_of}
 use Rattle.definition_tape.specs.Writing.{remark_of, Writable, judge_writing, writing}
 use Rattle.tape_promises.specs.Grammar.{TimerRules}
-use Rattle.tape_promises.specs.Numbers.{Test, passed, SizeRefused}
+use Rattle.tape_promises.specs.Numbers.{Test, Passed, SizeRefused}
 
 -- how many cells are not zero
 unfoldable pub occupied : List ℕ → ℕ
@@ -160,7 +160,7 @@ WritingRefused s c m n =
     (Test 18 (TimerRules c.timer → ⊥)
     (Test 14 (LongRemark m)
     (Test 15 (65536 < tape_size s m)
-    (Test 16 (n < tape_size s m) passed))))))
+    (Test 16 (n < tape_size s m) Passed))))))
 
 -- a tape is refused with a number exactly if it is due
 abbrev pub WritingNumbers : Type 0

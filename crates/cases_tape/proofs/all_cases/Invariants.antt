@@ -5,7 +5,7 @@ use Rattle.std.proofs.Common.{rules}
 use Rattle.cases_tape.proofs.all_cases.Given as goal
 
 abbrev pub invariant-loop-i : goal.invariant-loop-i
-invariant-loop-i l = (l.i ≤ l.initial.tape) × (length l.store ≡ length l.count) × (length l.copy ≡ length l.initial.store) × (length l.tape ≡ length l.initial.copy)
+invariant-loop-i l = (l.i ≤ l.count) × (length l.store ≡ length l.initial.store) × (length l.copy ≡ length l.initial.copy) × (length l.tape ≡ length l.initial.tape)
 
 abbrev pub decreases-loop-i : goal.decreases-loop-i
-decreases-loop-i l = l.initial.tape - l.i
+decreases-loop-i l = l.count - l.i

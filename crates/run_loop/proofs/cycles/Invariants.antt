@@ -16,9 +16,9 @@ use Rattle.run_loop.proofs.cycles.Given as goal
 
 abbrev pub invariant-loop-left : goal.invariant-loop-left
 invariant-loop-left l =
-    (l.left ≤ l.initial.k) × (length l.s ≡ length l.budget) × (length l.typing ≡ length l.initial.typing) × IsRow l.k × IsClock l.t × BelowLimit l.t × IsChannel l.h l.initial.h l.typing
-    × ValidComputer (machine l.s (control_at l.k) (channel_at l.h l.initial.h l.typing))
-    × (following (l.initial.k - l.left) (run_cycles l.left (timed_machine l.s (record { registers = control_at l.k; timer = timer_at l.t }) (channel_at l.h l.initial.h l.typing))) ≡ run_cycles l.initial.k (timed_machine l.budget (record { registers = control_at l.characters; timer = timer_at l.initial.s }) (channel_at l.initial.t l.initial.h l.initial.typing)))
+    (l.left ≤ l.budget) × (length l.s ≡ length l.initial.s) × (length l.typing ≡ length l.initial.typing) × IsRow l.k × IsClock l.t × BelowLimit l.t × IsChannel l.h l.characters l.typing
+    × ValidComputer (machine l.s (control_at l.k) (channel_at l.h l.characters l.typing))
+    × (following (l.budget - l.left) (run_cycles l.left (timed_machine l.s (record { registers = control_at l.k; timer = timer_at l.t }) (channel_at l.h l.characters l.typing))) ≡ run_cycles l.budget (timed_machine l.initial.s (record { registers = control_at l.initial.k; timer = timer_at l.initial.t }) (channel_at l.initial.h l.characters l.initial.typing)))
 
 abbrev pub decreases-loop-left : goal.decreases-loop-left
 decreases-loop-left l = l.left

@@ -10,7 +10,7 @@ use Rattle.std.proofs.Common.{rules}
 use Rattle.tape_load.proofs.copy_cells.Given as goal
 
 abbrev pub invariant-loop-i : goal.invariant-loop-i
-invariant-loop-i l = (l.i ≤ l.initial.dst) × (length l.dst ≡ length l.p) × (l.dst ≡ take l.i (cells_from l.k 4 l.initial.dst) ++ drop l.i l.p)
+invariant-loop-i l = (l.i ≤ l.k) × (length l.dst ≡ length l.initial.dst) × (l.dst ≡ take l.i (cells_from l.p 4 l.k) ++ drop l.i l.initial.dst)
 
 abbrev pub decreases-loop-i : goal.decreases-loop-i
-decreases-loop-i l = l.initial.dst - l.i
+decreases-loop-i l = l.k - l.i

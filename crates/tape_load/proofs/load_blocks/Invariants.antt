@@ -10,7 +10,7 @@ use Rattle.std.proofs.Common.{rules}
 use Rattle.tape_load.proofs.load_blocks.Given as goal
 
 abbrev pub invariant-loop-store : goal.invariant-loop-store
-invariant-loop-store l = (l.at ≤ length l.initial.store) × (length l.store ≡ length l.tape) × Ahead (length l.tape) (drop l.at l.initial.store) × (load_records l.store (records_of (drop l.at l.initial.store)) ≡ load_records l.tape (records_of l.initial.store)) × (first_of 2 (records_of (drop l.at l.initial.store)) ≡ first_of 2 (records_of l.initial.store))
+invariant-loop-store l = (l.at ≤ length l.tape) × (length l.store ≡ length l.initial.store) × Ahead (length l.initial.store) (drop l.at l.tape) × (load_records l.store (records_of (drop l.at l.tape)) ≡ load_records l.initial.store (records_of l.tape)) × (first_of 2 (records_of (drop l.at l.tape)) ≡ first_of 2 (records_of l.tape))
 
 abbrev pub decreases-loop-store : goal.decreases-loop-store
-decreases-loop-store l = length l.initial.store - l.at
+decreases-loop-store l = length l.tape - l.at

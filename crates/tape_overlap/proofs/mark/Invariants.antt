@@ -10,7 +10,7 @@ use Rattle.std.proofs.Common.{rules}
 use Rattle.tape_overlap.proofs.mark.Given as goal
 
 abbrev pub invariant-loop-i : goal.invariant-loop-i
-invariant-loop-i l = (l.e ≤ l.i) × (l.i ≤ max l.e l.initial.marks) × (length l.marks ≡ length l.a) × MarkedFrom l.e l.i l.a l.marks
+invariant-loop-i l = (l.a ≤ l.i) × (l.i ≤ max l.a l.e) × (length l.marks ≡ length l.initial.marks) × MarkedFrom l.a l.i l.initial.marks l.marks
 
 abbrev pub decreases-loop-i : goal.decreases-loop-i
-decreases-loop-i l = l.initial.marks - l.i
+decreases-loop-i l = l.e - l.i

@@ -14,7 +14,7 @@ use Rattle.tape_overlap.proofs.mark_records.Given as goal
 
 abbrev pub invariant-loop-n : goal.invariant-loop-n
 invariant-loop-n l =
-    (l.at ≤ length l.low) × (l.n ≤ l.initial.marks) × (length l.marks ≡ 8192) × Passed l.low l.at l.n × Marks l.most (take l.n (records_of l.low)) l.marks × Unnamed (records_of l.low) l.n l.high
+    (l.at ≤ length l.tape) × (l.n ≤ l.most) × (length l.marks ≡ 8192) × Passed l.tape l.at l.n × Marks l.low (take l.n (records_of l.tape)) l.marks × Unnamed (records_of l.tape) l.n l.high
 
 abbrev pub decreases-loop-n : goal.decreases-loop-n
-decreases-loop-n l = l.initial.marks - l.n
+decreases-loop-n l = l.most - l.n

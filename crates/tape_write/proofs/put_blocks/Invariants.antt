@@ -11,9 +11,9 @@ use Rattle.tape_write.proofs.put_blocks.Given as goal
 
 abbrev pub invariant-loop-at : goal.invariant-loop-at
 invariant-loop-at l =
-    (l.i ≤ length l.initial.out + 1) × (length l.out ≡ length l.from)
-    × (l.at + length (blocks_after l.initial.out l.i) ≡ l.to + length (blocks_bytes (store_blocks l.initial.out)))
-    × (put l.out l.at (blocks_after l.initial.out l.i) ≡ put l.from l.to (blocks_bytes (store_blocks l.initial.out)))
+    (l.i ≤ length l.store + 1) × (length l.out ≡ length l.initial.out)
+    × (l.at + length (blocks_after l.store l.i) ≡ l.from + length (blocks_bytes (store_blocks l.store)))
+    × (put l.out l.at (blocks_after l.store l.i) ≡ put l.initial.out l.from (blocks_bytes (store_blocks l.store)))
 
 abbrev pub decreases-loop-at : goal.decreases-loop-at
-decreases-loop-at l = length l.initial.out + 1 - l.i
+decreases-loop-at l = length l.store + 1 - l.i

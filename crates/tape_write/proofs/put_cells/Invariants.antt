@@ -9,7 +9,7 @@ use Rattle.std.proofs.Common.{rules}
 use Rattle.tape_write.proofs.put_cells.Given as goal
 
 abbrev pub invariant-loop-i : goal.invariant-loop-i
-invariant-loop-i l = (l.i ≤ length l.initial.out) × (length l.out ≡ length l.at) × (l.out ≡ put l.at l.cells (cells_bytes (take l.i l.initial.out)))
+invariant-loop-i l = (l.i ≤ length l.cells) × (length l.out ≡ length l.initial.out) × (l.out ≡ put l.initial.out l.at (cells_bytes (take l.i l.cells)))
 
 abbrev pub decreases-loop-i : goal.decreases-loop-i
-decreases-loop-i l = length l.initial.out - l.i
+decreases-loop-i l = length l.cells - l.i

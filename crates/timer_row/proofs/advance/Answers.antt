@@ -4,7 +4,7 @@ use Rattle.std.proofs.Common.{rules}
 use Rattle.timer_row.proofs.advance.Goals as goal
 
 pub returns-clause-value : goal.returns-clause-value
-returns-clause-value c = rw c.wrapping_add_u32.ensures (set_passing _ _ c.requires)
+returns-clause-value c = rw c.wrapping_add_u32.ensures.value (set_passing _ _ c.requires)
 
 pub returns-clause-kept : goal.returns-clause-kept
 returns-clause-kept c = set_clock _ _ c.requires

@@ -6,4 +6,4 @@ use Rattle.timer_row.proofs.timer_after.Goals as goal
 
 pub returns : goal.returns
 unfolding timer_after elapsed_after
-returns c = rw (c.wrapping_add_u32-elapsed.ensures, c.phase_after-phase.ensures)
+returns c = rw (c.wrapping_add_u32-elapsed.ensures.value, c.phase_after-phase.ensures)
