@@ -5,4 +5,3 @@ pub mod Enough
 pub mod Again
 pub mod Ends
 pub mod Passes
-pub mod Quotient

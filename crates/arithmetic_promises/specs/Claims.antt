@@ -1,18 +1,15 @@
 -- What is proved of the definitions of arithmetic, beside the contracts. Proofs: proofs/Adder.antt for 14.3, Again.antt for 14.7; for 14.8 Double.antt (AA, SS),
 -- Product.antt (WM), Enough.antt (NS, ND), Ends.antt and Passes.antt (FD).
-use Rattle.std.specs.Prelude.{ℕ, suc, ◌+◌, ◌-◌, ◌*◌, ◌/◌, ◌%◌, ◌^◌, ◌≤◌, ◌<◌, ◌≡◌, refl, Bool, true, cond, ◌&&◌, ◌⊎◌, ℤ, pos, ◌+ℤ◌, ◌-ℤ◌, ◌*ℤ◌}
-use Rattle.std.specs.Int.Signed.{lt_z, le_z}
+use Rattle.std.specs.Prelude.{ℕ, suc, ◌+◌, ◌-◌, ◌*◌, ◌/◌, ◌%◌, ◌^◌, ◌≤◌, ◌<◌, ◌≡◌, refl, true}
 use Rattle.registers.specs.Reg.{bit_from_right, sign, signed, complement, shl, add_ar, sub_ar, until}
 use Rattle.integer.specs.Sums.{sum, difference, sum_with_carry, difference_with_carry, sum24}
 use Rattle.integer.specs.Skip.{comparison}
 use Rattle.multiply.specs.Wm.{wm}
-use Rattle.registers.specs.Integer.{integer}
-use Rattle.normalize.specs.Norm.{normal, normal_at, normalize}
+use Rattle.normalize.specs.Norm.{normal_at, normalize}
 use Rattle.rounding.specs.declared.Unpacked.{Unpacked}
 use Rattle.rounding.specs.Round.{af_normal, af_left, no_rounding, round_again, normalize_once, normalize_round}
 use Rattle.floating.specs.Operands.{fraction, register_fraction, storage_fraction, signed_sf}
-use Rattle.floating.specs.declared.division.Quotient.{Quotient}
-use Rattle.floating.specs.Divide.{fd_start, fd_add, fd_stop, fd_loop, fd_result}
+use Rattle.floating.specs.Divide.{fd_start, fd_add, fd_stop, fd_loop}
 use Rattle.arithmetic_promises.specs.Elementary.{extension, left_shift, negation}
 use Rattle.arithmetic_promises.specs.Adder.{addition, subtraction, two_additions, test_integer}
 
@@ -141,26 +138,3 @@ DividePasses =
 fd_shortest : (fd_loop (2 ^ 36) (2 ^ 36)).passes ≡ 35
 unfolding fd_loop fd_start fd_add until
 fd_shortest = refl
-
--- from 0 on and below m, or, where m is negative, from m on and below 0
-abbrev pub up_to : ℤ → ℤ → Bool
-up_to m z = cond (lt_z m (pos 0)) (le_z m z && lt_z z (pos 0)) (le_z (pos 0) z && lt_z z m)
-
--- AF and SC before rounding, of the fractions f and g, the exponents we and se, and q as the loop leaves it. The fraction's last place, AF(35), has the weight 4 in
--- AF: half the true quotient would be 2 ** (passes + 1) f / g. AF is even (AF(37) = 0), and short of that by less than 2 for a positive g, by at most 2 and more than
--- 0 for a negative one: by half a unit of the last place at most.
-pub record HalfQuotient (f g we se : ℕ) (q : Quotient) : Type 0 where
-  pub passes : (q.passes ≡ 35) ⊎ (q.passes ≡ 36)
-  pub exponent : integer 13 (fd_result we se (signed_sf (storage_fraction g)) q).sc ≡ integer 12 we -ℤ integer 12 se +ℤ pos 35 -ℤ pos q.passes
-  pub even : (fd_result we se (signed_sf (storage_fraction g)) q).af % 2 ≡ 0
-  pub fraction :
-      up_to (pos 2 *ℤ integer 36 g)
-      (pos (2 ^ (q.passes + 1)) *ℤ integer 36 f -ℤ integer 39 (fd_result we se (signed_sf (storage_fraction g)) q).af *ℤ integer 36 g)
-      ≡ true
-
--- FD of normalised operands, before rounding: the fraction is half the true quotient, too small by half a unit of the last place at most; the exponent is the
--- difference of the exponents + 35 less the passes, 35 or 36
-abbrev pub QuotientLaw : Type 0
-QuotientLaw =
-    (f g we se : ℕ) → f < 2 ^ 36 → g < 2 ^ 36 → we < 2 ^ 12 → se < 2 ^ 12 → normal 36 f ≡ true → normal 36 g ≡ true
-    → HalfQuotient f g we se (fd_loop (signed_sf (storage_fraction g)) (register_fraction f))

@@ -1,4 +1,2 @@
--- What the contract of `divide` cites, what WD gives in integers, and examples.
+-- What the contract of `divide` cites.
 pub mod Wd
-pub mod Claims
-pub mod Worked

@@ -1,5 +1,4 @@
 use Rattle.definition_tape.specs.Layout.{control_of}
-use Rattle.std.proofs.Common.{rules}
 use Rattle.tape_records.proofs.control_of.Goals as goal
 
 pub returns : goal.returns

@@ -1,6 +1,5 @@
 use Rattle.tape_records.specs.Looks.{look_for}
 use borrow.Author.Tests.{lt-ltb, eq-eqb, le-ltb, ne_eqb, le-leb, lt-leb}
-use Rattle.std.proofs.Common.{rules}
 use Rattle.tape_records.proofs.look_for.Goals as goal
 
 -- Made by tools/prove.py; not to be edited.

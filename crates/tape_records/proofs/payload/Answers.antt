@@ -1,6 +1,5 @@
 use Rattle.definition_tape.specs.Layout.{payload_of}
 use native.Mathlib.Nat.{add-sub_cancel_left}
-use Rattle.std.proofs.Common.{rules}
 use Rattle.tape_records.proofs.payload.Goals as goal
 
 pub returns : goal.returns

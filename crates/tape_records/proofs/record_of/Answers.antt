@@ -1,5 +1,4 @@
 use Rattle.definition_tape.specs.Layout.{control_record_of}
-use Rattle.std.proofs.Common.{rules}
 use Rattle.tape_records.proofs.record_of.Goals as goal
 
 pub returns : goal.returns

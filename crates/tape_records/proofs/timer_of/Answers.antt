@@ -1,6 +1,5 @@
 use Rattle.definition_tape.specs.Layout.{timer_of}
 use borrow.Author.Tests.{lt-ltb, le-ltb}
-use Rattle.std.proofs.Common.{rules}
 use Rattle.tape_records.proofs.timer_of.Goals as goal
 
 pub returns-then-p-lt33 : goal.returns-then-p-lt33
