@@ -3,20 +3,22 @@
 
 usage: tools/statements.py               one line for each fault, or 'N statements, each with its proof and its edit'
        tools/statements.py --list        a row for each statement and definition: name, file, proof, edits
-       tools/statements.py --write       sets the proofs and edits of every row of docs/PROMISES.md that names a statement or a definition, then checks
+       tools/statements.py --write       sets the proofs and edits of every row of docs/PROMISES.md that names a statement or a definition, and the words of every
+                                         clause that has its row, then checks
        tools/statements.py --self-test   checks; then damages proofs, statements, definitions, edits and rows, one kind of damage after the other, and sees the check tell each
 
 Statement:  a closed type, `pub Name : Type 0`, in specs/Promises.antt, Several.antt, Claims.antt, Grammar.antt, Contents.antt, Numbers.antt or Protected.antt of a
             crate. There is none in another file of specs/, save ELSEWHERE, and there are LEAST or more.
 Definition: any other public item of these files: what the statements are said with. It has no proof.
-Proof:      `pub name : Name`, the name in kebab case, in proofs/ of the crate, with `Name` imported from the statement's file under that name.
+Proof:      `pub name : Name`, the name in snake case (with `_lem` behind it, where a definition has that name), in proofs/ of the crate, with `Name` imported from the
+            statement's file under that name. A check proves each file of proofs/ that a Lib.antt names, cited or not.
 Edit:       crates/CRATE/must-fail/*.edit. Of a statement: `# Name: ..` as its first line, of the statement's own text or of what it uses in its file. Of a definition: any
             with an `old:` in the definition's own text. Every statement has one, and every definition save UNEDITED.
 Row:        in a table `sentence | statement | proof | edits` of docs/PROMISES.md: statements and definitions, their proofs and their edits, as `CRATE/EDIT`. One for each
             statement and each definition that has an edit. All other edits stand in the section "Wrong answers ruled out".
 Contract:   each clause of each public call of rc4000 and capi has its row `call | clause | contract` in docs/PROMISES.md, word for word; there is no `requires`.
 """
-import functools, glob, os, re, sys
+import functools, os, re, sys
 from typing import NamedTuple
 
 FILES = "Promises", "Several", "Claims", "Grammar", "Contents", "Numbers", "Protected"
@@ -24,13 +26,15 @@ LEAST = 109     # statements: a request adds to them
 PLACE = rf"crates/(\w+)/(specs/(?:{'|'.join(FILES)})\.antt)"
 # closed types that claim nothing
 ELSEWHERE = {"crates/definition_instructions/specs/MicroOps.antt: Value"}
-# definitions with no edit of their own: machineOf's type allows no other function; Remark, Content, Lent and Call are types of data and claim nothing
-UNEDITED = {"machineOf", "Remark", "Content", "Lent", "Call"}
+# definitions with no edit of their own: machine_of's type allows no other function; Remark, Content, Lent and Call are types of data and claim nothing
+UNEDITED = {"machine_of", "Remark", "Content", "Lent", "Call"}
 PAGE = "docs/PROMISES.md"
 COLUMNS = ["sentence", "statement", "proof", "edits"]
 SECTION = "## Wrong answers ruled out\n"
-NAME = r"(?:[A-Z]\w*[a-z]|[a-z]+[A-Z])\w*"
+FACT = r"[A-Z]\w*[a-z]\w*"
+NAME = rf"(?:{FACT}|[a-z]\w*_\w*)"
 CLOSED = r"(?m)^[ \t]*(?:(?:abbrev|unfoldable) )?pub (\S+) :\s+Type \d(?=[ \t]*(?:--.*)?$)"
+LEMMA = r"(?m)^pub (\S+) : (\w+)$"
 PUBLIC = r"(?m)^(?:pub (?:record |data )?|[ \t]*(?:abbrev|unfoldable) pub )(\S+)(?: .*)? :"
 
 
@@ -52,26 +56,35 @@ class Edit(NamedTuple):
 
 
 def read(root):
-    """path -> text"""
+    """path -> text; out/ holds what rt makes"""
     os.chdir(root)
-    paths = [p for end in ("antt", "rt", "edit") for p in glob.glob(f"crates/**/*.{end}", recursive=True)]
+    paths = []
+    for at, folders, files in os.walk("crates"):
+        folders[:] = sorted(x for x in folders if x != "out")
+        paths += [f"{at}/{x}" for x in files if x.endswith((".antt", ".rt", ".edit"))]
     return {p: open(p, encoding="utf-8").read() for p in sorted(paths) + [PAGE]}
+
+
+def snake(name):
+    return re.sub(r"(?<=.)(?=[A-Z])", "_", name).lower()
 
 
 def items(tree):
     """The statements and the definitions"""
-    found = []
+    found, lemmas = [], {(m[1], name, of) for path, text in tree.items() if (m := re.match(r"crates/(\w+)/proofs/", path)) for name, of in re.findall(LEMMA, text)}
     for path, text in tree.items():
         m = re.fullmatch(PLACE, path)
         closed = re.findall(CLOSED, text) if m else []
         for name in closed + [x for x in re.findall(PUBLIC, text) if x not in closed] if m else []:
-            found.append(Item(m[1], m[2], name, re.sub(r"(?<=.)(?=[A-Z])", "-", name).lower() if name in closed else ""))
+            other = f"{snake(name)}_lem"
+            found.append(Item(m[1], m[2], name, "" if name not in closed else other if (m[1], other, name) in lemmas else snake(name)))
     return found
 
 
 def edits(tree):
-    """CRATE/EDIT -> Edit"""
-    found = {}
+    """CRATE/EDIT -> Edit; a first line can name a function too"""
+    found, functions = {}, {name for path, text in tree.items() if path.endswith(".rt") for name in re.findall(r"\bfn (\w+)", text)}
+    functions -= {s.name for s in items(tree)}
     for path, text in tree.items():
         if path.endswith(".edit"):
             crate, name = re.fullmatch(r"crates/([^/]*)/(?:.*/)?([^/]*)\.edit", path).groups()
@@ -79,7 +92,7 @@ def edits(tree):
             for key, value in re.findall(r"(?m)^(file|old): (.*)", text):
                 file = value if key == "file" else file
                 pairs += [(file, value)] if key == "old" else []
-            found[f"{crate}/{name}"] = Edit(crate, of[1] if of else "", bool(re.match(r"# \S", text)), pairs)
+            found[f"{crate}/{name}"] = Edit(crate, of[1] if of and of[1] not in functions else "", bool(re.match(r"# \S", text)), pairs)
     return found
 
 
@@ -123,16 +136,20 @@ def place_faults(tree, found):
 
 
 def contracts(tree):
-    """(call, clause, text) of the public calls; the clause of a `requires` is 'requires'"""
+    """(call, clause, text) of the public calls; the clause of a `requires` is 'requires'. A clause of several lines is told as one"""
     for crate in "rc4000", "capi":
         for m in re.finditer(r'(?ms)^pub (?:extern "C" )?fn (\w+).*?^\{$', tree[f"crates/{crate}/src/lib.rt"]):
-            for kind, clause, text in re.findall(r"(?m)^    (requires|ensures) ?(\w*) \{ (.*) \}$", m[0]):
-                yield f"{crate}::{m[1]}", clause if kind == "ensures" else kind, text
+            for kind, clause, text in re.findall(r"(?ms)^    (requires|ensures)\*? ?(\w*) \{\s(.*?)\s\}(?=\n    (?:requires|ensures)|\n\{)", m[0]):
+                yield f"{crate}::{m[1]}", clause if kind == "ensures" else kind, " ".join(text.split())
+
+
+def row_of(call, clause, text):
+    return f"| `{call}` | {clause and f'`{clause}`'} | `{text}` |"
 
 
 def contract_faults(tree):
     """The page has each clause of each public call, and the calls have each clause of the page."""
-    given = {f"| `{call}` | {clause and f'`{clause}`'} | `{text}` |" for call, clause, text in contracts(tree)}
+    given = {row_of(*x) for x in contracts(tree)}
     listed = {line for line in tree[PAGE].splitlines() if re.match(r"\| `(?:rc4000|capi)::\w+` \|", line)}
     yield from (f"{PAGE}: no row {line}" for line in sorted(given - listed))
     yield from (f"{PAGE}: not a clause of the call: {line}" for line in sorted(listed - given))
@@ -145,8 +162,8 @@ def proofs(tree):
     found = set()
     for path, text in tree.items():
         m = re.match(r"crates/(\w+)/proofs/", path)
-        for name, of in re.findall(r"(?m)^pub (\S+) : (\w+)$", text) if m else []:
-            uses = re.findall(rf"(?m)^use Rattle·{m[1]}·specs\.specs\.(\w+)\.{{([^}}]*)}}", text)
+        for name, of in re.findall(LEMMA, text) if m else []:
+            uses = re.findall(rf"(?m)^use Rattle\.{m[1]}\.specs\.(\w+)\.{{([^}}]*)}}", text)
             files = [file for file, names in uses if of in re.split(r"\s*,\s*", names.strip())]
             if files and of not in parts(text) and re.search(rf"(?m)^{re.escape(name)}(?: .*)? =", text):
                 found.add((m[1], f"specs/{files[0]}.antt", of, name))
@@ -220,16 +237,18 @@ def row_faults(page, found, listed):
     for i, cells in rows(page):
         names = [n for n in named(cells[1], r"\w+") if n in listed]
         seen += names
-        yield from (f"{PAGE}:{i + 1}: no statement {n}" for n in named(cells[1], NAME) if n[0].isupper() and n not in known)
-        given = named(cells[2], r"[a-z][a-z0-9-]*"), named(cells[3], r"\w+/\w+")
+        yield from (f"{PAGE}:{i + 1}: no statement {n}" for n in named(cells[1], FACT) if n not in known)
+        given = named(cells[2], r"[a-z][a-z0-9_]*"), named(cells[3], r"\w+/\w+")
         if names and given != columns(names, listed):
             yield f"{PAGE}:{i + 1}: row of {', '.join(names)}: not its proofs and edits (tools/statements.py --write)"
     yield from (f"{PAGE}: {n} has {seen.count(n)} rows, not 1: | .. | `{n}` | | |" for n in listed if seen.count(n) != 1)
 
 
-def written(page, listed):
-    """The page with the proofs and edits of each row set"""
-    lines = page.splitlines()
+def written(page, listed, clauses):
+    """The page with the proofs and edits of each row set, and the words of each clause that has its row"""
+    lines, words = page.splitlines(), {row_of(call, clause, "").removesuffix("`` |"): row_of(call, clause, text) for call, clause, text in clauses}
+    for i, line in enumerate(lines):
+        lines[i] = next((row for head, row in words.items() if line.startswith(head)), line)
     for i, cells in rows(page):
         names = [n for n in named(cells[1], r"\w+") if n in listed]
         if names:
@@ -319,7 +338,7 @@ def main():
             print("|", s.name, "|", s.path()[7:], "|", s.proof, "|", ", ".join(edits_of(s, tree, all_edits)), "|")
         return
     if sys.argv[1:] == ["--write"]:
-        tree[PAGE] = written(tree[PAGE], due(tree, found, all_edits))
+        tree[PAGE] = written(tree[PAGE], due(tree, found, all_edits), list(contracts(tree)))
         open(PAGE, "w", encoding="utf-8").write(tree[PAGE])
     wrong = faults(tree)
     if sys.argv[1:] == ["--self-test"] and not wrong:

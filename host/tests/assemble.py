@@ -2,6 +2,7 @@
 stand-ins for the programs, which keep the listing that they are given. Programs: the proved ones, on listings, and their tapes under loadrun."""
 import os
 import pathlib
+import re
 import shutil
 import subprocess
 import sys
@@ -14,12 +15,20 @@ sys.dont_write_bytecode = True
 sys.path.insert(0, str(ROOT / "tools"))
 import tape  # noqa: E402
 
+# What it says is on standard error. It proves the crates that CRATES has and that no call before has proved.
 RT = """#!/bin/sh
-echo "$@" >>"$PLACE/asked"
-for crate in $CRATES; do echo "logic=proved of $crate"; echo "rt: $crate proved (3 s)"; done
-[ -e "$PLACE/refuse" ] && { echo "error: what is wrong"; echo "rt: assemble NOT PROVED (exit 1, 2 s)"; exit 1; }
-mkdir -p target/bin && cp -p "$PLACE/assemble" "$PLACE/assemble_tape" target/bin
-echo "rt: assemble ran, and wrote what its file 'stdout' has (0 s)"
+name=$(basename "$PWD")
+echo "$name: $@" >>"$PLACE/asked"
+for crate in $CRATES; do
+    case $crate in assemble | assemble_tape) [ $crate = $name ] || continue ;; esac
+    [ -e "$PLACE/proved $crate" ] && continue
+    echo "rt: chose --jobs 2 for $crate" >&2
+    echo "logic=proved functions=1 of $crate" >&2
+    touch "$PLACE/proved $crate"
+done
+[ -e "$PLACE/refuse $name" ] && { echo "error: what is wrong" >&2; echo "logic=not-proved" >&2; exit 1; }
+mkdir -p out && cp -p "$PLACE/$name" out
+echo "rt: running out/$name; to give it other input, run that file yourself" >&2
 """
 
 PROGRAM = """#!/bin/sh
@@ -29,12 +38,23 @@ cat "$PLACE/result of $(basename "$0")"
 
 
 def crates(*programs):
-    """The crates that rt proves for the programs, in some order."""
+    """The crates that rt proves for the programs, each behind those that it uses."""
     lines = [line.split("#")[0].split(":") for line in (ROOT / "crates.txt").read_text().splitlines() if ":" in line.split("#")[0]]
-    uses, found = {name: rest.split() for name, rest in lines}, list(programs)
-    for name in found:
-        found += [used for used in uses[name] if used in uses and used not in found]
+    uses, found = {name.split()[0]: rest.split() for name, rest in lines}, []
+
+    def visit(name):
+        if name in uses and name not in found:
+            for used in uses[name]:
+                visit(used)
+            found.append(name)
+
+    for program in programs:
+        visit(program)
     return found
+
+
+def untimed(text):
+    return re.sub(r"\(\d+ s\)", "(.. s)", text)
 
 
 class Both(unittest.TestCase):
@@ -62,6 +82,7 @@ class Script(Both):
             shutil.copy(ROOT / name, self.repository / name)
         self.source = self.repository / "crates" / "assemble" / "src" / "main.rt"
         self.source.parent.mkdir(parents=True)
+        (self.repository / "crates" / "assemble_tape").mkdir()
         for name, text in (self.source, ""), ("rt", RT), ("assemble", PROGRAM), ("assemble_tape", PROGRAM):
             (self.room / name).write_text(text)
             (self.room / name).chmod(0o755)
@@ -75,13 +96,22 @@ class Script(Both):
         (self.room / "result of assemble").write_text(words)
         (self.room / "result of assemble_tape").write_text(written)
 
+    def built(self, program):
+        return self.repository / "crates" / program / "out" / program
+
     def build(self):
         """As though they were proved before."""
-        folder = self.repository / "target" / "bin"
-        folder.mkdir(parents=True)
         for name in "assemble", "assemble_tape":
-            shutil.copy(self.room / name, folder / name)
-            os.utime(folder / name, (time.time() + 9, time.time() + 9))
+            self.built(name).parent.mkdir()
+            shutil.copy(self.room / name, self.built(name))
+            os.utime(self.built(name), (time.time() + 9, time.time() + 9))
+
+    def forget(self, *names):
+        """As though nothing was proved before."""
+        for file in self.room / "asked", *[self.room / f"proved {name}" for name in names]:
+            file.unlink()
+        for name in "assemble", "assemble_tape":
+            shutil.rmtree(self.built(name).parent, ignore_errors=True)
 
     def given(self, program="assemble"):
         return (self.room / f"listing of {program}").read_bytes()
@@ -103,34 +133,37 @@ class Script(Both):
             self.settings["CRATES"] = " ".join(names)
             done = self.run_script(*arguments, self.listing)
             self.ended(done, 0, "" if arguments else "7\n", "proving and building")
-            told = done.stderr.splitlines()[1:]
-            self.assertEqual(told, [f"[{i:2} of {len(names)}] {name} proved (3 s)" for i, name in enumerate(names, 1)])
-            self.assertEqual((self.room / "asked").read_text(), f"check {' '.join(programs)}\n")
-            (self.room / "asked").unlink()
-            shutil.rmtree(self.repository / "target")
+            told = untimed(done.stderr).splitlines()[1:]
+            self.assertEqual(sorted(told), [f"[{i:2} of {len(names)}] {name} proved (.. s)" for i, name in enumerate(names, 1)])
+            self.assertEqual((self.room / "asked").read_text(), "".join(f"{name}: run\n" for name in programs))
+            self.forget(*names)
 
     def test_it_proves_again_only_after_a_change(self):
         self.run_script("--tape", self.tape, self.listing)
         self.ended(self.run_script("--tape", self.tape, self.listing), 0, "")
         self.ended(self.run_script(self.listing), 0, "7\n")
         os.utime(self.source, (time.time() + 9, time.time() + 9))
-        self.ended(self.run_script(self.listing), 0, "7\n", "[ 1 of ")
+        (self.room / "proved assemble").unlink()
+        self.ended(self.run_script(self.listing), 0, "7\n", "] assemble proved (")
 
     def test_a_tape_needs_the_second_program(self):
         self.build()
-        (self.repository / "target" / "bin" / "assemble_tape").unlink()
+        self.built("assemble_tape").unlink()
         self.ended(self.run_script(self.listing), 0, "7\n")
-        self.ended(self.run_script("--tape", self.tape, self.listing), 0, "", "[ 1 of ")
+        self.ended(self.run_script("--tape", self.tape, self.listing), 0, "", "] machine proved (")
 
     def test_it_proves_where_standard_error_is_closed(self):
         self.ended(self.run_in_shell(f"{self.listing} 2>&-"), 0, "7\n")
-        self.assertEqual((self.room / "asked").read_text(), "check assemble\n")
+        self.assertEqual((self.room / "asked").read_text(), "assemble: run\n")
 
     def test_what_is_not_proved_is_shown(self):
-        (self.room / "refuse").touch()
-        done = self.run_script("--tape", self.tape, self.listing)
-        self.ended(done, 1, "", "logic=proved of machine\n", "error: what is wrong\n", "assemble: the program is not proved\n")
-        self.assertFalse(self.tape.exists())
+        for name, asked in ("assemble_tape", "assemble: run\nassemble_tape: run\n"), ("assemble", "assemble: run\n"):
+            (self.room / f"refuse {name}").touch()
+            done = self.run_script("--tape", self.tape, self.listing)
+            self.ended(done, 1, "", "functions=1 of machine\n", "error: what is wrong\n", "assemble: the program is not proved\n")
+            self.assertEqual((self.room / "asked").read_text(), asked)
+            self.assertFalse(self.tape.exists())
+            self.forget("machine", "assemble")
 
     def test_the_kit_is_needed(self):
         (self.room / "rt").unlink()
@@ -162,7 +195,7 @@ class Script(Both):
             self.ended(self.run_script(self.listing), 1, "", "printed no result")
         self.answer("7\n8\n")
         self.ended(self.run_script("--tape", self.tape, self.listing), 1, "", "wrote no tape")
-        (self.repository / "target" / "bin" / "assemble").write_text("#!/bin/sh\nkill -9 $$\n")
+        self.built("assemble").write_text("#!/bin/sh\nkill -9 $$\n")
         os.utime(self.source, (0, 0))
         self.listing.write_text("")
         self.ended(self.run_script(self.listing), 1, "", "printed no result")

@@ -2,6 +2,7 @@
 the program, which keeps the tape that it is given."""
 import os
 import pathlib
+import re
 import shutil
 import subprocess
 import tempfile
@@ -10,18 +11,20 @@ import unittest
 
 ROOT = pathlib.Path(__file__).resolve().parents[2]
 
-# It waits for the file go behind its first crate, five seconds at most.
+# It waits for the file go behind its first crate, five seconds at most. What it says is on standard error, what its program writes on standard output.
 RT = """#!/bin/sh
-echo "$@" >>"$PLACE/asked"
+echo "$(basename "$PWD"): $@" >>"$PLACE/asked"
 for crate in $CRATES; do
-    echo "logic=proved of $crate"
-    echo "rt: $crate proved (3 s)"
+    echo "rt: chose --jobs 2 for $crate" >&2
+    echo "fn $crate::some: proved" >&2
+    echo "logic=proved functions=1 of $crate" >&2
     for i in ${tries-$(seq 50)}; do [ -e "$PLACE/go" ] && break; sleep 0.1; done
     tries=
 done
-[ -e "$PLACE/refuse" ] && { echo "error: what is wrong"; echo "rt: loadrun NOT PROVED (exit 1, 2 s)"; exit 1; }
-mkdir -p target/bin && cp -p "$PLACE/program" target/bin/loadrun
-echo "rt: loadrun ran, and wrote what its file 'stdout' has (0 s)"
+[ -e "$PLACE/refuse" ] && { echo "error: what is wrong" >&2; echo "logic=not-proved" >&2; exit 1; }
+mkdir -p out && cp -p "$PLACE/program" out/loadrun
+echo "rt: running out/loadrun; to give it other input, run that file yourself" >&2
+echo "refused 6"
 """
 
 PROGRAM = """#!/bin/sh
@@ -31,12 +34,22 @@ cat "$PLACE/result"
 
 
 def crates():
-    """The crates that rt proves for loadrun, in some order."""
+    """The crates that rt proves for loadrun, each behind those that it uses."""
     lines = [line.split("#")[0].split(":") for line in (ROOT / "crates.txt").read_text().splitlines() if ":" in line.split("#")[0]]
-    uses, found = {name: rest.split() for name, rest in lines}, ["loadrun"]
-    for name in found:
-        found += [used for used in uses[name] if used in uses and used not in found]
+    uses, found = {name.split()[0]: rest.split() for name, rest in lines}, []
+
+    def visit(name):
+        if name in uses and name not in found:
+            for used in uses[name]:
+                visit(used)
+            found.append(name)
+
+    visit("loadrun")
     return found
+
+
+def untimed(text):
+    return re.sub(r"\(\d+ s\)", "(.. s)", text)
 
 
 class Loadrun(unittest.TestCase):
@@ -62,8 +75,8 @@ class Loadrun(unittest.TestCase):
 
     def build(self):
         """As though it were proved before."""
-        program = self.repository / "target" / "bin" / "loadrun"
-        program.parent.mkdir(parents=True)
+        program = self.repository / "crates" / "loadrun" / "out" / "loadrun"
+        program.parent.mkdir()
         shutil.copy(self.room / "program", program)
         os.utime(program, (time.time() + 9, time.time() + 9))
 
@@ -86,12 +99,16 @@ class Loadrun(unittest.TestCase):
             self.assertEqual(done.stderr, "")
 
     def test_every_crate_is_told_with_what_is_left(self):
-        done = self.run_script(self.tape)
         names = crates()
-        self.ended(done, 0, "spent 100 0 18\n", f"[ 1 of {len(names)}] loadrun proved (3 s)\n")
-        told = done.stderr.splitlines()[1:]
-        self.assertEqual(told, [f"[{i:2} of {len(names)}] {name} proved (3 s)" for i, name in enumerate(names, 1)])
-        self.assertEqual((self.room / "asked").read_text(), "check loadrun\n")
+        for proved in names, names[7::9], ["loadrun"]:
+            self.settings["CRATES"] = " ".join(proved)
+            done = self.run_script(self.tape)
+            self.ended(done, 0, "spent 100 0 18\n", f"[{len(names)} of {len(names)}] loadrun proved (" if "loadrun" in proved else "proving and building")
+            told = untimed(done.stderr).splitlines()[1:]
+            self.assertEqual(told, [f"[{i:2} of {len(names)}] {name} proved (.. s)" for i, name in enumerate(names, 1) if name in proved])
+            self.assertEqual((self.room / "asked").read_text(), "loadrun: run\n")
+            (self.room / "asked").unlink()
+            shutil.rmtree(self.repository / "crates" / "loadrun" / "out")
 
     def test_a_crate_is_told_when_it_is_proved(self):
         (self.room / "go").unlink()
@@ -107,17 +124,22 @@ class Loadrun(unittest.TestCase):
     def test_it_proves_again_only_after_a_change(self):
         self.run_script(self.tape)
         self.ended(self.run_script(self.tape), 0, "spent 100 0 18\n")
+        kept = self.repository / "crates" / "machine" / "out" / "rlib" / "lang" / "src" / "lib.rt"  # rt's own copies are no sources
+        kept.parent.mkdir(parents=True)
+        kept.touch()
+        os.utime(kept, (time.time() + 9, time.time() + 9))
+        self.ended(self.run_script(self.tape), 0, "spent 100 0 18\n")
         os.utime(self.source, (time.time() + 9, time.time() + 9))
         self.ended(self.run_script(self.tape), 0, "spent 100 0 18\n", "[ 1 of ")
 
     def test_it_proves_where_standard_error_is_closed(self):
         self.ended(self.run_in_shell(f"{self.tape} 2>&-"), 0, "spent 100 0 18\n")
-        self.assertEqual((self.room / "asked").read_text(), "check loadrun\n")
+        self.assertEqual((self.room / "asked").read_text(), "loadrun: run\n")
 
     def test_what_is_not_proved_is_shown(self):
         (self.room / "refuse").touch()
         done = self.run_script(self.tape)
-        self.ended(done, 1, "", "logic=proved of machine\n", "error: what is wrong\n", "rt: loadrun NOT PROVED", "loadrun: the program is not proved\n")
+        self.ended(done, 1, "", "functions=1 of machine\n", "error: what is wrong\n", "logic=not-proved\n", "loadrun: the program is not proved\n")
         self.assertFalse((self.room / "tape").exists())
 
     def test_the_kit_is_needed(self):
@@ -144,7 +166,7 @@ class Loadrun(unittest.TestCase):
         for line in "", "refused", "spent 100 0", "reset 0 0 0 0", "spent 100 0 18\nspent 100 0 18", "gone 1 2 3":
             (self.room / "result").write_text(line + "\n")
             self.ended(self.run_script(self.tape), 1, "", "printed no result")
-        (self.repository / "target" / "bin" / "loadrun").write_text("#!/bin/sh\nkill -9 $$\n")
+        (self.repository / "crates" / "loadrun" / "out" / "loadrun").write_text("#!/bin/sh\nkill -9 $$\n")
         os.utime(self.source, (0, 0))
         for size in 0, 100000:  # more than a pipe holds
             self.tape.write_bytes(bytes(size))
