@@ -1,11 +1,11 @@
 -- The ways out of the functions that read a line, in the terms of the code. Assumes nothing.
 use Prim.Native.Nat.{ℕ, zero, suc, ◌+◌, ◌*◌, ◌-◌, ◌≤◌, ◌<◌}
 use mathlib.Core.Path.{◌≡◌, refl, sym, ap, ap₂, ◌∙◌}
-use mathlib.Core.Bool.{Bool, true, false, not, cond, ◌&&◌}
+use mathlib.Core.Bool.{Bool, true, false, cond, ◌&&◌}
 use mathlib.Core.List.{List}
 use native.Mathlib.Omega.{arith}
 use native.Mathlib.Nat.{add-zero}
-use borrow.Author.Tests.{eq-eqb, ne_eqb, lt-ltb, le-ltb, ltb-true, not-true, not-false}
+use borrow.Author.Tests.{eq-eqb, ne_eqb, lt-ltb, le-ltb, ltb-true}
 use lib.ListN.{length, get_or}
 use lib.Dec.{ltb, eqb}
 use Rattle.machine.specs.declared.Refusal.{Refusal}
@@ -94,60 +94,60 @@ module _ (t : List ℕ) (at a b x : ℕ) (e : x ≡ byte t at) where
 module _ (t : List ℕ) where
   -- ---- register_good: f, g, k, m are what the four tests answered
   module _ (p : ℕ) (f g k : Bool) (e₁ : f ≡ eqb (byte t p) 32) where
-    pub register_1 : not f ≡ true → false ≡ register_good t p
+    pub register_1 : f ≡ false → false ≡ register_good t p
     unfolding register_good
-    register_1 h = rw (sym e₁ ∙ not-true f h)
+    register_1 h = rw (sym e₁ ∙ h)
 
-    module _ (e₂ : g ≡ eqb (byte t (p + 1)) 87) (h₁ : not f ≡ false) where
-      pub register_2 : not g ≡ true → false ≡ register_good t p
+    module _ (e₂ : g ≡ eqb (byte t (p + 1)) 87) (h₁ : f ≡ true) where
+      pub register_2 : g ≡ false → false ≡ register_good t p
       unfolding register_good
-      register_2 h = rw (sym e₁ ∙ not-false f h₁, sym e₂ ∙ not-true g h)
+      register_2 h = rw (sym e₁ ∙ h₁, sym e₂ ∙ h)
 
-      module _ (b : ℕ) (q : b ≡ byte t (p + 2)) (e₃ : k ≡ is_register b) (h₂ : not g ≡ false) where
-        pub register_3 : not k ≡ true → false ≡ register_good t p
+      module _ (b : ℕ) (q : b ≡ byte t (p + 2)) (e₃ : k ≡ is_register b) (h₂ : g ≡ true) where
+        pub register_3 : k ≡ false → false ≡ register_good t p
         unfolding register_good
-        register_3 h = rw (sym e₁ ∙ not-false f h₁, sym e₂ ∙ not-false g h₂, ap is_register (sym q) ∙ sym e₃ ∙ not-true k h)
+        register_3 h = rw (sym e₁ ∙ h₁, sym e₂ ∙ h₂, ap is_register (sym q) ∙ sym e₃ ∙ h)
 
-        pub register_4 : not k ≡ false → (m : Bool) → m ≡ eqb (byte t (p + 3)) 32 → m ≡ register_good t p
+        pub register_4 : k ≡ true → (m : Bool) → m ≡ eqb (byte t (p + 3)) 32 → m ≡ register_good t p
         unfolding register_good
-        register_4 h m e₄ = rw (sym e₁ ∙ not-false f h₁, sym e₂ ∙ not-false g h₂, ap is_register (sym q) ∙ sym e₃ ∙ not-false k h) e₄
+        register_4 h m e₄ = rw (sym e₁ ∙ h₁, sym e₂ ∙ h₂, ap is_register (sym q) ∙ sym e₃ ∙ h) e₄
 
   -- ---- index_good, index_of
   module _ (q : ℕ) (f : Bool) (e₁ : f ≡ eqb (byte t q) 88) where
-    pub index_none : not f ≡ true → true ≡ index_good t q
+    pub index_none : f ≡ false → true ≡ index_good t q
     unfolding index_good
-    index_none h = rw (sym e₁ ∙ not-true f h)
+    index_none h = rw (sym e₁ ∙ h)
 
-    pub index_zero : not f ≡ true → 0 ≡ index_of t q
+    pub index_zero : f ≡ false → 0 ≡ index_of t q
     unfolding index_of
-    index_zero h = rw (sym e₁ ∙ not-true f h)
+    index_zero h = rw (sym e₁ ∙ h)
 
-    module _ (h₁ : not f ≡ false) (b : ℕ) (p : b ≡ byte t (q + 1)) where
+    module _ (h₁ : f ≡ true) (b : ℕ) (p : b ≡ byte t (q + 1)) where
       pub index_digit : (r : ℕ) → r ≡ b - 48 → r ≡ index_of t q
       unfolding index_of
-      index_digit r e = rw (sym e₁ ∙ not-false f h₁) (e ∙ ap (λ x. x - 48) p)
+      index_digit r e = rw (sym e₁ ∙ h₁) (e ∙ ap (λ x. x - 48) p)
 
       module _ (k : Bool) (e₂ : k ≡ is_index b) where
-        pub index_bad : not k ≡ true → false ≡ index_good t q
+        pub index_bad : k ≡ false → false ≡ index_good t q
         unfolding index_good
-        index_bad h = rw (sym e₁ ∙ not-false f h₁, ap is_index (sym p) ∙ sym e₂ ∙ not-true k h)
+        index_bad h = rw (sym e₁ ∙ h₁, ap is_index (sym p) ∙ sym e₂ ∙ h)
 
-        pub index_comma : not k ≡ false → (m : Bool) → m ≡ eqb (byte t (q + 2)) 44 → m ≡ index_good t q
+        pub index_comma : k ≡ true → (m : Bool) → m ≡ eqb (byte t (q + 2)) 44 → m ≡ index_good t q
         unfolding index_good
-        index_comma h m e₃ = rw (sym e₁ ∙ not-false f h₁, ap is_index (sym p) ∙ sym e₂ ∙ not-false k h) e₃
+        index_comma h m e₃ = rw (sym e₁ ∙ h₁, ap is_index (sym p) ∙ sym e₂ ∙ h) e₃
 
   -- ---- ends
-  pub ends_plain : (i : Bool) (n : ℕ) → not i ≡ true → eqb n (length t) ≡ ended t i n
+  pub ends_plain : (i : Bool) (n : ℕ) → i ≡ false → eqb n (length t) ≡ ended t i n
   unfolding ended
-  ends_plain i n h = rw (not-true i h)
+  ends_plain i n h = rw h
 
-  pub ends_open : (i f : Bool) (n : ℕ) → not i ≡ false → f ≡ eqb (byte t n) 93 → not f ≡ true → false ≡ ended t i n
+  pub ends_open : (i f : Bool) (n : ℕ) → i ≡ true → f ≡ eqb (byte t n) 93 → f ≡ false → false ≡ ended t i n
   unfolding ended
-  ends_open i f n h e g = rw (not-false i h, sym e ∙ not-true f g)
+  ends_open i f n h e g = rw (h, sym e ∙ g)
 
-  pub ends_closed : (i f : Bool) (n : ℕ) → not i ≡ false → f ≡ eqb (byte t n) 93 → not f ≡ false → eqb (n + 1) (length t) ≡ ended t i n
+  pub ends_closed : (i f : Bool) (n : ℕ) → i ≡ true → f ≡ eqb (byte t n) 93 → f ≡ true → eqb (n + 1) (length t) ≡ ended t i n
   unfolding ended
-  ends_closed i f n h e g = rw (not-false i h, sym e ∙ not-false f g)
+  ends_closed i f n h e g = rw (h, sym e ∙ g)
 
   -- ---- head_good
   module _ (c : ℕ) (e₁ : c ≡ code_of (byte t 0) (byte t 1)) where
@@ -156,14 +156,14 @@ module _ (t : List ℕ) where
     head_unknown h = rw (← e₁, le-ltb c 58 h)
 
     module _ (h₁ : c < 58) (p : ℕ) (e₂ : p ≡ register_place t) (g : Bool) (e₃ : g ≡ register_good t p) where
-      pub head_no_register : not g ≡ true → false ≡ head_good t
+      pub head_no_register : g ≡ false → false ≡ head_good t
       unfolding head_good
-      head_no_register h = let f : register_good t (register_place t) ≡ false = ap (register_good t) (sym e₂) ∙ sym e₃ ∙ not-true g h in rw (← e₁, lt-ltb c 58 h₁, f)
+      head_no_register h = let f : register_good t (register_place t) ≡ false = ap (register_good t) (sym e₂) ∙ sym e₃ ∙ h in rw (← e₁, lt-ltb c 58 h₁, f)
 
-      pub head_index : not g ≡ false → (q : ℕ) → q ≡ index_place t → (r : Bool) → r ≡ index_good t q → r ≡ head_good t
+      pub head_index : g ≡ true → (q : ℕ) → q ≡ index_place t → (r : Bool) → r ≡ index_good t q → r ≡ head_good t
       unfolding head_good
       head_index h q e₄ r e₅ =
-          let f : register_good t (register_place t) ≡ true = ap (register_good t) (sym e₂) ∙ sym e₃ ∙ not-false g h in
+          let f : register_good t (register_place t) ≡ true = ap (register_good t) (sym e₂) ∙ sym e₃ ∙ h in
           rw (← e₁, lt-ltb c 58 h₁, f) (e₅ ∙ ap (index_good t) e₄)
 
   -- ---- what a good head gives
@@ -267,11 +267,11 @@ parsed_to (parsed v m) f a n e h = (v, ap (parsed v) (ap place (sym e ∙ h)), a
     address (AddressTo b k) = b
 
 module _ (t : List ℕ) (h : length t ≤ 255) (c : ℕ) (ec : c ≡ code_of (byte t 0) (byte t 1)) (g : Bool) (eg : g ≡ head_good t) where
-  pub line_no_head : not g ≡ true → Refused LineGrammar ≡ assembling t
+  pub line_no_head : g ≡ false → Refused LineGrammar ≡ assembling t
   unfolding assembling
-  line_no_head k = rw (le-ltb 255 (length t) h, sym eg ∙ not-true g k)
+  line_no_head k = rw (le-ltb 255 (length t) h, sym eg ∙ k)
 
-  module _ (k : not g ≡ false) (p q at : ℕ) (ep : p ≡ register_place t) (eq : q ≡ past t (p + 4) 91) (ea : at ≡ past_index t q) (s : Found) (es : s ≡ found_of (parse evaluation t (sum_at at Nothing))) where
+  module _ (k : g ≡ true) (p q at : ℕ) (ep : p ≡ register_place t) (eq : q ≡ past t (p + 4) 91) (ea : at ≡ past_index t q) (s : Found) (es : s ≡ found_of (parse evaluation t (sum_at at Nothing))) where
     q_is : q ≡ index_place t
     q_is = eq ∙ ap (λ n. past t (n + 4) 91) ep
 
@@ -281,7 +281,7 @@ module _ (t : List ℕ) (h : length t ≤ 255) (c : ℕ) (ec : c ≡ code_of (by
 
     started : assembling t ≡ parsed_answer t (parse evaluation t (sum_at at Nothing))
     unfolding assembling
-    started = rw (le-ltb 255 (length t) h, sym eg ∙ not-false g k, read_at)
+    started = rw (le-ltb 255 (length t) h, sym eg ∙ k, read_at)
 
     pub line_wrong : s ≡ NoAddress → Refused LineGrammar ≡ assembling t
     line_wrong e = sym (started ∙ ap (parsed_answer t) (parsed_from (parse evaluation t (sum_at at Nothing)) s es e))
@@ -304,4 +304,4 @@ module _ (t : List ℕ) (h : length t ≤ 255) (c : ℕ) (ec : c ≡ code_of (by
     pub line_tested : (a : Address) (n : ℕ) → s ≡ AddressTo a n → Tested t c p q a
     line_tested a n e =
         let v = parsed_to (parse evaluation t (sum_at at Nothing)) s a n es e in
-        record { operation = ec; good = sym eg ∙ not-false g k; register = ep; index = q_is; small = rw v.2 (address_small v.0) }
+        record { operation = ec; good = sym eg ∙ k; register = ep; index = q_is; small = rw v.2 (address_small v.0) }

@@ -9,7 +9,7 @@ use Rattle.machine.specs.declared.Instruction.{Instruction}
 use Rattle.machine.specs.declared.Kind.{Kind}
 use Rattle.machine.specs.Format.{instruction_fields}
 use Rattle.definition_instructions.specs.Machine.{computer, Channel, Machine, machine}
-use Rattle.definition_instructions.specs.Meaning.{Op, AM, AL, Ac, HL, HS, RL, RS, RX, DL, DS, BZ, BL, BA, BS, WA, WS, WM, WD, AA, SS, CI, CF, FA, FS, FM, FD, LA, LO, LX, AS, AD, LS, LD, NS, ND, JL, SH, SL, SE, SN, SO, SZ, SX, SP, JE, JD, IC, IS, ML, MS, XL, XS, PL, PS, KL, KS, None, Peripheral, IO, AW}
+use Rattle.definition_instructions.specs.Meaning.{Op, AM, AL, AC, HL, HS, RL, RS, RX, DL, DS, BZ, BL, BA, BS, WA, WS, WM, WD, AA, SS, CI, CF, FA, FS, FM, FD, LA, LO, LX, AS, AD, LS, LD, NS, ND, JL, SH, SL, SE, SN, SO, SZ, SX, SP, JE, JD, IC, IS, ML, MS, XL, XS, PL, PS, KL, KS, None, Peripheral, IO, AW}
 use Rattle.definition_instructions.specs.Codes.{Mnemonic, internal, device, codes, lookup}
 use Rattle.definition_times.specs.Times.{modification_time, indirect_time, operation_time, device_time, mnemonic_time, execution_time}
 use Rattle.definition_runs.specs.GenericRun.{instruction, entry}
@@ -28,7 +28,7 @@ operation_time_lem : (o : Op) (sb w : ℕ) (s : List ℕ) (c d : Control) → op
 unfolding operation_time
 operation_time_lem AM sb w s c d = refl
 operation_time_lem AL sb w s c d = refl
-operation_time_lem Ac sb w s c d = refl
+operation_time_lem AC sb w s c d = refl
 operation_time_lem HL sb w s c d = refl
 operation_time_lem HS sb w s c d = refl
 operation_time_lem RL sb w s c d = refl

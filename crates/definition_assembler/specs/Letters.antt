@@ -3,7 +3,7 @@
 use Rattle.std.specs.Prelude.{ℕ}
 use Prim.Native.Char.{code}
 use Prim.Native.String.{String, char_at}
-use Rattle.definition_instructions.specs.Meaning.{AM, AL, Ac, HL, HS, RL, RS, RX, DL, DS, BZ, BL, BA, BS, WA, WS, WM, WD, AA, SS, CI, CF, FA, FS, FM, FD, LA, LO, LX, AS, AD, LS, LD, NS, ND, JL, SH, SL, SE, SN, SO, SZ, SX, SP, JE, JD, IC, IS, ML, MS, XL, XS, PL, PS, KL, KS, None, IO, AW}
+use Rattle.definition_instructions.specs.Meaning.{AM, AL, AC, HL, HS, RL, RS, RX, DL, DS, BZ, BL, BA, BS, WA, WS, WM, WD, AA, SS, CI, CF, FA, FS, FM, FD, LA, LO, LX, AS, AD, LS, LD, NS, ND, JL, SH, SL, SE, SN, SO, SZ, SX, SP, JE, JD, IC, IS, ML, MS, XL, XS, PL, PS, KL, KS, None, IO, AW}
 use Rattle.definition_instructions.specs.Codes.{Mnemonic, internal, device, codes, lookup}
 
 -- the byte of a character at a place of a text
@@ -18,7 +18,7 @@ ascii s = character s 0
 unfoldable pub letters : Mnemonic → String
 letters (internal AM) = "AM"
 letters (internal AL) = "AL"
-letters (internal Ac) = "AC"
+letters (internal AC) = "AC"
 letters (internal HL) = "HL"
 letters (internal HS) = "HS"
 letters (internal RL) = "RL"

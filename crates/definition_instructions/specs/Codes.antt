@@ -4,7 +4,7 @@ use Rattle.std.specs.Prelude.{ℕ, cond, List, [], ◌∷◌, eqb}
 use Rattle.machine.specs.declared.Control.{Control}
 use Rattle.definition_instructions.specs.Machine.{Computer, computer, Machine, Effect, lifted}
 use Rattle.definition_instructions.specs.MicroOps.{execute_operation, execute_device_operation}
-use Rattle.definition_instructions.specs.Meaning.{Op, AM, AL, Ac, HL, HS, RL, RS, RX, DL, DS, BZ, BL, BA, BS, WA, WS, WM, WD, AA, SS, CI, CF, FA, FS, FM, FD, LA, LO, LX, AS, AD, LS, LD, NS, ND, JL, SH, SL, SE, SN, SO, SZ, SX, SP, JE, JD, IC, IS, ML, MS, XL, XS, PL, PS, KL, KS, None, meaning, Peripheral, IO, AW, device_meaning}
+use Rattle.definition_instructions.specs.Meaning.{Op, AM, AL, AC, HL, HS, RL, RS, RX, DL, DS, BZ, BL, BA, BS, WA, WS, WM, WD, AA, SS, CI, CF, FA, FS, FM, FD, LA, LO, LX, AS, AD, LS, LD, NS, ND, JL, SH, SL, SE, SN, SO, SZ, SX, SP, JE, JD, IC, IS, ML, MS, XL, XS, PL, PS, KL, KS, None, meaning, Peripheral, IO, AW, device_meaning}
 
 pub data Mnemonic : Type 0 where
   internal : Op → Mnemonic
@@ -27,7 +27,7 @@ codes =
     ∷ code 8 WS ∷ code 9 AM ∷ code 10 WM ∷ code 11 AL ∷ code 12 ML ∷ code 13 JL ∷ code 14 JD ∷ code 15 JE
     ∷ code 16 XL ∷ code 17 BS ∷ code 18 BA ∷ code 19 BZ ∷ code 20 RL ∷ code 21 SP ∷ code 22 KL ∷ code 23 RS
     ∷ code 24 WD ∷ code 25 RX ∷ code 26 HS ∷ code 27 XS ∷ code 28 PL ∷ code 29 PS ∷ code 30 MS ∷ code 31 IS
-    ∷ code 32 CI ∷ code 33 Ac ∷ code 34 NS ∷ code 35 ND ∷ code 36 AS ∷ code 37 AD ∷ code 38 LS ∷ code 39 LD
+    ∷ code 32 CI ∷ code 33 AC ∷ code 34 NS ∷ code 35 ND ∷ code 36 AS ∷ code 37 AD ∷ code 38 LS ∷ code 39 LD
     ∷ code 40 SH ∷ code 41 SL ∷ code 42 SE ∷ code 43 SN ∷ code 44 SO ∷ code 45 SZ ∷ code 46 SX ∷ code 47 IC
     ∷ code 48 FA ∷ code 49 FS ∷ code 50 FM ∷ code 51 KS ∷ code 52 FD ∷ code 53 CF ∷ code 54 DL ∷ code 55 DS
     ∷ code 56 AA ∷ code 57 SS ∷ []

@@ -23,7 +23,7 @@ use Rattle.definition_instructions.specs.Operands.{reg_w, reg_pre, word_at, firs
 
 -- the mnemonic codes of A.2 but for IO and AW, which reach devices, and `None` for a code that is not used
 pub data Op : Type 0 where
-  AM AL Ac HL HS RL RS RX DL DS BZ BL BA BS WA WS WM WD AA SS CI CF FA FS FM FD LA LO LX AS AD LS LD NS ND JL SH SL SE SN SO SZ SX SP JE JD IC IS ML MS XL XS PL PS KL KS None : Op
+  AM AL AC HL HS RL RS RX DL DS BZ BL BA BS WA WS WM WD AA SS CI CF FA FS FM FD LA LO LX AS AD LS LD NS ND JL SH SL SE SN SO SZ SX SP JE JD IC IS ML MS XL XS PL PS KL KS None : Op
 
 unfoldable pub meaning : Op → ℕ → ℕ → Computer → Operation
 -- Modify Next Address: AR := signed SB, added to the displacement of the next instruction. The fetch that is printed here belongs to the next
@@ -32,7 +32,7 @@ meaning AM sb w m = unprivileged (modify (always sb) ∷ [])
 -- Load Address: W := SB
 meaning AL sb w m = unprivileged (set_w (always sb) ∷ [])
 -- Load Address Complemented: EX(22:23) := 0; AR := 0 - signed SB; W := AR(0:23); Test Integer
-meaning Ac sb w m =
+meaning AC sb w m =
     let r = difference 0 sb in
     unprivileged (clear_flags ∷ set_w (always r.word) ∷ test_integer r)
 -- Load Half Register: Test Address; W(12:23) := byte(SB)

@@ -13,7 +13,7 @@ use Rattle.floating.specs.Convert.{fraction_shifts}
 use Rattle.floating.proofs.Shifts.{shifts_most as cf-most}
 use Rattle.definition_instructions.specs.Machine.{Computer, Machine}
 use Rattle.definition_instructions.specs.Operands.{reg_w}
-use Rattle.definition_instructions.specs.Meaning.{Op, AM, AL, Ac, HL, HS, RL, RS, RX, DL, DS, BZ, BL, BA, BS, WA, WS, WM, WD, AA, SS, CI, CF, FA, FS, FM, FD, LA, LO, LX, AS, AD, LS, LD, NS, ND, JL, SH, SL, SE, SN, SO, SZ, SX, SP, JE, JD, IC, IS, ML, MS, XL, XS, PL, PS, KL, KS, None, Peripheral, IO, AW}
+use Rattle.definition_instructions.specs.Meaning.{Op, AM, AL, AC, HL, HS, RL, RS, RX, DL, DS, BZ, BL, BA, BS, WA, WS, WM, WD, AA, SS, CI, CF, FA, FS, FM, FD, LA, LO, LX, AS, AD, LS, LD, NS, ND, JL, SH, SL, SE, SN, SO, SZ, SX, SP, JE, JD, IC, IS, ML, MS, XL, XS, PL, PS, KL, KS, None, Peripheral, IO, AW}
 use Rattle.definition_instructions.specs.Codes.{Mnemonic, internal, device, codes, lookup}
 use Rattle.definition_times.specs.Times.{modification_time, indirect_time, operation_time, io_time, device_time, mnemonic_time, execution_time}
 
@@ -42,7 +42,7 @@ operation_most : (o : Op) (sb w : ℕ) (m : Computer) → operation_time o sb w 
 unfolding operation_time
 operation_most AM sb w m = omega arith
 operation_most AL sb w m = omega arith
-operation_most Ac sb w m = omega arith
+operation_most AC sb w m = omega arith
 operation_most HL sb w m = omega arith
 operation_most HS sb w m = omega arith
 operation_most RL sb w m = omega arith

@@ -10,7 +10,7 @@ use Rattle.floating.specs.Convert.{fraction_shifts}
 use Rattle.definition_instructions.specs.Machine.{Computer, Machine, computer_of}
 use Rattle.definition_instructions.specs.Channel.{device_of, command_of, sense_command, control_command, read_command, disconnected, busy}
 use Rattle.definition_instructions.specs.Operands.{reg_w}
-use Rattle.definition_instructions.specs.Meaning.{Op, AM, AL, Ac, HL, HS, RL, RS, RX, DL, DS, BZ, BL, BA, BS, WA, WS, WM, WD, AA, SS, CI, CF, FA, FS, FM, FD, LA, LO, LX, AS, AD, LS, LD, NS, ND, JL, SH, SL, SE, SN, SO, SZ, SX, SP, JE, JD, IC, IS, ML, MS, XL, XS, PL, PS, KL, KS, None, Peripheral, IO, AW}
+use Rattle.definition_instructions.specs.Meaning.{Op, AM, AL, AC, HL, HS, RL, RS, RX, DL, DS, BZ, BL, BA, BS, WA, WS, WM, WD, AA, SS, CI, CF, FA, FS, FM, FD, LA, LO, LX, AS, AD, LS, LD, NS, ND, JL, SH, SL, SE, SN, SO, SZ, SX, SP, JE, JD, IC, IS, ML, MS, XL, XS, PL, PS, KL, KS, None, Peripheral, IO, AW}
 use Rattle.definition_instructions.specs.Codes.{Mnemonic, internal, device, codes, lookup}
 
 -- ---- address modification: M is FR(8:9), relative and indirect; X is FR(10:11)
@@ -28,7 +28,7 @@ indirect_time code m = cond (eqb (m % 2) 0) 0 (cond (ltb code 32) 15 (cond (ltb 
 unfoldable pub operation_time : Op → ℕ → ℕ → Computer → ℕ
 operation_time AM sb w m = 20
 operation_time AL sb w m = 15
-operation_time Ac sb w m = 25
+operation_time AC sb w m = 25
 operation_time HL sb w m = 30
 operation_time HS sb w m = 40
 operation_time RL sb w m = 30

@@ -8,7 +8,7 @@ ghost use Rattle.definition_instructions.specs.Operands.{integer_overflow};
 ghost use Rattle.control_row.specs.Row.{control_at, IsRow};
 ghost use Rattle.control_row.specs.Endings.{ending, ending_of};
 ghost use Rattle.definition_instructions.specs.Codes.{execute};
-ghost use Rattle.definition_instructions.specs.Meaning.{Ac, BA, BS, WA, WS, WM, WD, AA, SS, LA, LO, LX, AS, AD, LS, LD, NS, ND};
+ghost use Rattle.definition_instructions.specs.Meaning.{AC, BA, BS, WA, WS, WM, WD, AA, SS, LA, LO, LX, AS, AD, LS, LD, NS, ND};
 ghost use Rattle.definition_instructions.specs.Machine.{computer};
 ghost use Rattle.definition_times.specs.Times.{operation_time};
 ghost use Rattle.timer_row.specs.Row.{clock_at, passing, IsClock};
@@ -31,7 +31,7 @@ fn test_integer(k: &mut Row, r: Sum)
 // Load Address Complemented.
 pub fn ac(s: &mut [u32], k: &mut Row, w: u32, sb: u32) -> End
     requires { (sb < word_range) × IsRow k.old }
-    ensures value { ending_of result s.new (control_at k.new) ≡ ending (execute Ac w sb s.old (control_at k.old)) }
+    ensures value { ending_of result s.new (control_at k.new) ≡ ending (execute AC w sb s.old (control_at k.old)) }
     ensures kept { IsRow k.new }
 {
     control_row::clear_flags(k);

@@ -1,6 +1,5 @@
 use Rattle.assembler.proofs.Ways.{ends_plain, ends_open, ends_closed}
 use Rattle.definition_assembler.proofs.Steps.{inside_eq}
-use borrow.Author.Tests.{not-false}
 use mathlib.Core.Path.{sym, ◌∙◌}
 use native.Mathlib.Omega.{arith}
 use Rattle.std.proofs.Common.{rules}

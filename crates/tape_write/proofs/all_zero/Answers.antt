@@ -1,8 +1,7 @@
-use Prim.Native.Nat.{ℕ, ◌+◌, ◌-◌, ◌≤◌, ◌<◌}
+use Prim.Native.Nat.{ℕ, ◌+◌, ◌<◌}
 use mathlib.Core.Path.{◌≡◌, refl}
 use mathlib.Core.Bool.{Bool, true, false, cond}
 use mathlib.Core.List.{List}
-use mathlib.Core.Logic.{⊎_elim}
 use native.Mathlib.Numerals.{add-one}
 use lib.ListN.{length, get_or, drop, drop_of_length-le}
 use lib.Seq.{drop-cons}
@@ -11,6 +10,7 @@ use borrow.Author.Tests.{eq-eqb, ne_eqb}
 use Rattle.tape_write.specs.Steps.{all_zero}
 use Rattle.std.proofs.Common.{rules}
 use Rattle.tape_write.proofs.all_zero.Goals as goal
+use Rattle.tape_write.proofs.all_zero.Goals.{then-cells-i-ne0, else-cells-i-ne0}
 
 step : (s : List ℕ) (i : ℕ) → i < length s
     → all_zero (drop i s) ≡ cond (eqb (get_or s i 0) 0) (all_zero (drop (i + 1) s)) false
@@ -32,10 +32,10 @@ pub loop-i-preserved : goal.loop-i-preserved
 loop-i-preserved c = let was = c.loop-i in
     let within = c.loop-i-test.true in (
       search rules,
-      ⊎_elim
-          (λ w. rw (w.1, ← was.invariant.1, step _ _ within, ne_eqb _ _ w.0.taken) (never-zero was.zero))
-          (λ w. rw (w.1, ← was.invariant.1, step _ _ within, eq-eqb _ _ w.0.left))
-          c.if-cells-i-ne0.branch,
+      elim c.if-cells-i-ne0.branch [
+        | then-cells-i-ne0 w ↦ rw (w.zero-is, ← was.invariant.1, step _ _ within, ne_eqb _ _ w.if-cells-i-ne0.true) (never-zero was.zero)
+        | else-cells-i-ne0 w ↦ rw (w.zero-is, ← was.invariant.1, step _ _ within, eq-eqb _ _ w.if-cells-i-ne0.false)
+      ],
     )
 
 pub returns : goal.returns

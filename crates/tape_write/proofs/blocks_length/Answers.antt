@@ -1,12 +1,5 @@
-use Prim.Native.Nat.{◌+◌, ◌-◌, ◌*◌, ◌≤◌}
-use mathlib.Core.Path.{◌≡◌}
 use native.Mathlib.Omega.{arith}
-use lib.ListN.{length}
-use Rattle.definition_tape.specs.Blocks.{store_blocks}
-use Rattle.definition_tape.specs.Bytes.{blocks_bytes}
-use Rattle.tape_write.specs.Steps.{blocks_after}
 use Rattle.tape_write.proofs.Passes.{blocks_all, size_step, length_done}
-use Rattle.std.proofs.Common.{rules}
 use Rattle.tape_write.proofs.blocks_length.Goals as goal
 
 pub loop-i-init : goal.loop-i-init
@@ -43,7 +36,7 @@ loop-i-preserved c = let s = c.args.store.now in
     let l = c.loop-i in
     let k = c.stretch_length-k in
     let e = c.block_size-total.ensures in
-    let z = size_step s l.i k.result k.ensures.0 k.ensures.1.1 k.ensures.1.0 in
+    let z = size_step s l.i k.result k.ensures.value k.ensures.some k.ensures.bound in
     (omega (arith, k.ensures), omega (arith, l.invariant), omega (arith, l.invariant))
 
 pub returns-clause-value : goal.returns-clause-value

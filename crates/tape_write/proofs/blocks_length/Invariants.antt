@@ -1,12 +1,9 @@
 use Prim.Native.Nat.{◌+◌, ◌-◌, ◌*◌, ◌≤◌}
 use mathlib.Core.Path.{◌≡◌}
-use native.Mathlib.Omega.{arith}
 use lib.ListN.{length}
 use Rattle.definition_tape.specs.Blocks.{store_blocks}
 use Rattle.definition_tape.specs.Bytes.{blocks_bytes}
 use Rattle.tape_write.specs.Steps.{blocks_after}
-use Rattle.tape_write.proofs.Passes.{blocks_all, size_step, length_done}
-use Rattle.std.proofs.Common.{rules}
 use Rattle.tape_write.proofs.blocks_length.Given as goal
 
 abbrev pub invariant-loop-i : goal.invariant-loop-i

@@ -1,12 +1,9 @@
-use Prim.Native.Nat.{◌+◌, ◌-◌, ◌≤◌}
-use mathlib.Core.Path.{◌≡◌, refl, ◌∙◌}
+use Prim.Native.Nat.{◌≤◌}
+use mathlib.Core.Path.{refl, ◌∙◌}
 use native.Mathlib.Omega.{arith}
 use lib.ListN.{length}
-use Rattle.definition_tape.specs.Blocks.{store_blocks}
-use Rattle.definition_tape.specs.Bytes.{blocks_bytes}
-use Rattle.tape_write.specs.Steps.{put, blocks_after}
+use Rattle.tape_write.specs.Steps.{blocks_after}
 use Rattle.tape_write.proofs.Passes.{blocks_all, blocks_left, size_step, put_step, part_fits, put_done}
-use Rattle.std.proofs.Common.{rules}
 use Rattle.tape_write.proofs.put_blocks.Goals as goal
 
 pub loop-at-init : goal.loop-at-init
@@ -45,7 +42,7 @@ pub put_stretch-requires : goal.put_stretch-requires
 put_stretch-requires c = let a = c.args in
     let l = c.loop-at in
     let k = c.stretch_length-k in
-    part_fits a.store.now l.i k.result k.ensures.0 k.ensures.1.1 k.ensures.1.0 l.at (length l.out) c.requires.0
+    part_fits a.store.now l.i k.result k.ensures.value k.ensures.some k.ensures.bound l.at (length l.out) c.requires.0
     (omega (arith, l.invariant, c.requires))
 
 pub block_size-at-requires : goal.block_size-at-requires
@@ -55,7 +52,7 @@ pub overflow_add-at : goal.overflow_add-at
 overflow_add-at c = let a = c.args in
     let l = c.loop-at in
     let k = c.stretch_length-k in
-    let z = size_step a.store.now l.i k.result k.ensures.0 k.ensures.1.1 k.ensures.1.0 in
+    let z = size_step a.store.now l.i k.result k.ensures.value k.ensures.some k.ensures.bound in
     omega (arith, l.invariant, c.requires, c.block_size-at.ensures)
 
 pub overflow_add-i-else-store-i-eq0 : goal.overflow_add-i-else-store-i-eq0
@@ -74,10 +71,10 @@ loop-at-preserved c = let a = c.args in
     let k = c.stretch_length-k in
     let p = c.put_stretch in
     let e = c.block_size-at.ensures in
-    let z = size_step s l.i k.result k.ensures.0 k.ensures.1.1 k.ensures.1.0 in
+    let z = size_step s l.i k.result k.ensures.value k.ensures.some k.ensures.bound in
     let b : l.at ≤ length l.out = omega (arith, l.invariant, c.requires) in
-    let w = put_step s l.i k.result k.ensures.0 k.ensures.1.1 k.ensures.1.0 l.out _ l.at b p.ensures in
-    (omega (arith, k.ensures), p.auto.0 ∙ l.invariant.1, omega (arith, l.invariant), rw e (w ∙ l.invariant.3))
+    let w = put_step s l.i k.result k.ensures.value k.ensures.some k.ensures.bound l.out _ l.at b p.ensures in
+    (omega (arith, k.ensures), p.auto.out ∙ l.invariant.1, omega (arith, l.invariant), rw e (w ∙ l.invariant.3))
 
 pub returns : goal.returns
 returns c = let l = c.loop-at in

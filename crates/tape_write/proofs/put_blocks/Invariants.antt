@@ -1,12 +1,9 @@
 use Prim.Native.Nat.{◌+◌, ◌-◌, ◌≤◌}
-use mathlib.Core.Path.{◌≡◌, refl, ◌∙◌}
-use native.Mathlib.Omega.{arith}
+use mathlib.Core.Path.{◌≡◌}
 use lib.ListN.{length}
 use Rattle.definition_tape.specs.Blocks.{store_blocks}
 use Rattle.definition_tape.specs.Bytes.{blocks_bytes}
 use Rattle.tape_write.specs.Steps.{put, blocks_after}
-use Rattle.tape_write.proofs.Passes.{blocks_all, blocks_left, size_step, put_step, part_fits, put_done}
-use Rattle.std.proofs.Common.{rules}
 use Rattle.tape_write.proofs.put_blocks.Given as goal
 
 abbrev pub invariant-loop-at : goal.invariant-loop-at

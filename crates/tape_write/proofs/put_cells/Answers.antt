@@ -1,11 +1,7 @@
-use Prim.Native.Nat.{◌-◌, ◌≤◌}
 use mathlib.Core.Path.{◌≡◌, refl, ◌∙◌}
 use native.Mathlib.Omega.{arith}
-use lib.ListN.{length, take}
-use Rattle.definition_tape.specs.Bytes.{cells_bytes}
-use Rattle.tape_write.specs.Steps.{put}
+use lib.ListN.{length}
 use Rattle.tape_write.proofs.Puts.{cells_none, cells_more, cells_all}
-use Rattle.std.proofs.Common.{rules}
 use Rattle.tape_write.proofs.put_cells.Goals as goal
 
 pub loop-i-init : goal.loop-i-init
@@ -15,7 +11,7 @@ pub loop-i-preserved : goal.loop-i-preserved
 loop-i-preserved c = let a = c.args in
     let l = c.loop-i in
     let n = c.put_number in
-    (omega arith, n.auto.0 ∙ l.invariant.1, cells_more a.out.now l.out _ a.at l.i _ a.cells.now (omega arith) c.loop-i-test.true l.invariant.2 refl n.ensures)
+    (omega arith, n.auto.out ∙ l.invariant.1, cells_more a.out.now l.out _ a.at l.i _ a.cells.now (omega arith) c.loop-i-test.true l.invariant.2 refl n.ensures)
 
 pub returns : goal.returns
 returns c = let a = c.args in

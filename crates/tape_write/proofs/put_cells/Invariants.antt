@@ -1,11 +1,8 @@
 use Prim.Native.Nat.{◌-◌, ◌≤◌}
-use mathlib.Core.Path.{◌≡◌, refl, ◌∙◌}
-use native.Mathlib.Omega.{arith}
+use mathlib.Core.Path.{◌≡◌}
 use lib.ListN.{length, take}
 use Rattle.definition_tape.specs.Bytes.{cells_bytes}
 use Rattle.tape_write.specs.Steps.{put}
-use Rattle.tape_write.proofs.Puts.{cells_none, cells_more, cells_all}
-use Rattle.std.proofs.Common.{rules}
 use Rattle.tape_write.proofs.put_cells.Given as goal
 
 abbrev pub invariant-loop-i : goal.invariant-loop-i

@@ -1,6 +1,5 @@
 use native.Mathlib.Omega.{arith}
 use Rattle.tape_write.proofs.Puts.{header_put}
-use Rattle.std.proofs.Common.{rules}
 use Rattle.tape_write.proofs.put_header.Goals as goal
 
 pub returns : goal.returns

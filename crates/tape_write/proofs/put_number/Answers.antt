@@ -1,7 +1,6 @@
 use native.Mathlib.Omega.{arith}
 use lib.ListN.{length-set}
 use Rattle.tape_write.proofs.Puts.{four_stores}
-use Rattle.std.proofs.Common.{rules}
 use Rattle.tape_write.proofs.put_number.Goals as goal
 
 pub bounds-out-at-2 : goal.bounds-out-at-2

@@ -1,7 +1,6 @@
 use native.Mathlib.Omega.{arith}
 use lib.ListN.{length-set}
 use Rattle.tape_write.proofs.Puts.{two_stores}
-use Rattle.std.proofs.Common.{rules}
 use Rattle.tape_write.proofs.put_pair.Goals as goal
 
 pub bounds-out-at-2 : goal.bounds-out-at-2

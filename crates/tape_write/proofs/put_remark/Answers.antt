@@ -1,7 +1,5 @@
-use borrow.Author.Tests.{not-true, not-false}
 use native.Mathlib.Omega.{arith}
 use Rattle.tape_write.proofs.Ways.{remark_short, remark_size, no_remark_put, remark_put}
-use Rattle.std.proofs.Common.{rules}
 use Rattle.tape_write.proofs.put_remark.Goals as goal
 
 pub returns-then-not-given : goal.returns-then-not-given

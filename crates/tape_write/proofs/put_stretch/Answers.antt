@@ -1,7 +1,6 @@
 use mathlib.Core.Path.{refl}
 use native.Mathlib.Omega.{arith}
 use Rattle.tape_write.proofs.Puts.{stretch_put}
-use Rattle.std.proofs.Common.{rules}
 use Rattle.tape_write.proofs.put_stretch.Goals as goal
 
 pub put_header-requires : goal.put_header-requires

@@ -2,7 +2,6 @@ use native.Mathlib.Omega.{arith}
 use Rattle.definition_tape.specs.Writing.{remark_of}
 use Rattle.tape_write.proofs.Ways.{parts_put}
 use Rattle.definition_tape.proofs.Lengths.{length_tape}
-use Rattle.std.proofs.Common.{rules}
 use Rattle.tape_write.proofs.put_tape.Goals as goal
 
 pub put_remark-requires : goal.put_remark-requires

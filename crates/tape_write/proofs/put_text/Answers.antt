@@ -1,10 +1,7 @@
-use Prim.Native.Nat.{◌-◌, ◌≤◌}
 use mathlib.Core.Path.{◌≡◌, refl}
 use native.Mathlib.Omega.{arith}
-use lib.ListN.{length, take, length-set}
-use Rattle.tape_write.specs.Steps.{put}
+use lib.ListN.{length, length-set}
 use Rattle.tape_write.proofs.Puts.{text_none, text_more, text_all}
-use Rattle.std.proofs.Common.{rules}
 use Rattle.tape_write.proofs.put_text.Goals as goal
 
 pub loop-i-init : goal.loop-i-init

@@ -1,6 +1,5 @@
 use mathlib.Core.Path.{sym}
 use Rattle.tape_write.proofs.Ways.{remark_size, no_remark_size}
-use Rattle.std.proofs.Common.{rules}
 use Rattle.tape_write.proofs.remark_size.Goals as goal
 
 pub returns-then-given : goal.returns-then-given

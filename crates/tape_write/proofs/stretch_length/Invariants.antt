@@ -1,10 +1,7 @@
 use Prim.Native.Nat.{◌+◌, ◌-◌, ◌≤◌}
 use mathlib.Core.Path.{◌≡◌}
-use native.Mathlib.Omega.{arith}
 use lib.ListN.{length, drop}
 use Rattle.definition_tape.specs.Blocks.{stretch}
-use Rattle.tape_write.proofs.Passes.{stretch_stops, stretch_goes, stretch_ends}
-use Rattle.std.proofs.Common.{rules}
 use Rattle.tape_write.proofs.stretch_length.Given as goal
 
 abbrev pub invariant-loop-end : goal.invariant-loop-end

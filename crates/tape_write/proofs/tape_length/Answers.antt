@@ -2,7 +2,6 @@ use native.Mathlib.Omega.{arith}
 use Rattle.definition_tape.specs.Writing.{remark_of}
 use Rattle.tape_write.proofs.Ways.{remark_small}
 use Rattle.definition_tape.proofs.Lengths.{length_tape}
-use Rattle.std.proofs.Common.{rules}
 use Rattle.tape_write.proofs.tape_length.Goals as goal
 
 pub overflow_add-result : goal.overflow_add-result

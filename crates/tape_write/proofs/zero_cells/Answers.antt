@@ -2,7 +2,6 @@ use mathlib.Core.Path.{sym, ◌∙◌}
 use native.Mathlib.Nat.{add-sub_cancel_left}
 use native.Mathlib.Omega.{arith}
 use Rattle.tape_write.proofs.Passes.{blocks_zero, blocks_zeros}
-use Rattle.std.proofs.Common.{rules}
 use Rattle.tape_write.proofs.zero_cells.Goals as goal
 
 pub returns-then-i-ne0-clause-blocks : goal.returns-then-i-ne0-clause-blocks
