@@ -2,8 +2,11 @@
 // IC is 16, in monitor mode with interrupts disabled. Nothing is written where a line is refused or the cells or the bytes of the listing are too many.
 #![tactic(auto)]
 
+ghost use Rattle.std.specs.Prelude.{◌≤◌, length, IfOk};
+
 use definition_assembler::Assembled;
 use machine::{Control, Record};
+use std::io::{self, Read};
 
 // Whether there is such a cell.
 fn put_word(store: &mut [u32], cell: usize, word: u32) -> bool {
@@ -59,28 +62,45 @@ fn ready() -> Record {
     }
 }
 
-fn write_front(tape: &[u8], length: usize) {
+fn write_front(rt: &impl Print, tape: &[u8], length: usize) -> io::Result<()> {
     if length <= tape.len() {
-        io::write_all(1, &tape[..length]);
+        rt.write_all(&tape[..length])?;
     }
+    Ok(())
 }
 
 // The tape of the store, with no remark. A refusal has the length 0.
-fn write_tape(store: &[u32]) {
+fn write_tape(rt: &impl Print, store: &[u32]) -> io::Result<()> {
     let mut tape = [0u8; 65536];
     let control = ready();
     let w = rc4000::write(store, control, false, &[], &mut tape);
-    write_front(&tape, w.length);
+    write_front(rt, &tape, w.length)
 }
 
-fn main() {
+// Fills the buffer from its front, and tells how far: as far as it goes, or less where the input ends.
+fn read_full(input: &mut impl Read, buffer: &mut [u8]) -> io::Result<usize>
+    ensures { IfOk result (λ n. n ≤ length buffer.new) }
+{
+    let mut done = 0;
+    while done < buffer.len() {
+        let n = input.read(&mut buffer[done..])?;
+        if n == 0 {
+            break;
+        }
+        done += n;
+    }
+    Ok(done)
+}
+
+fn main(rt: HostRuntime) -> io::Result<()> {
     // One byte more than a listing may have, so that a longer one is seen to be too long.
     let mut text = [0u8; 65537];
-    let n = io::read_full(0, &mut text);
+    let n = read_full(&mut rt.reader(), &mut text)?;
     let mut store = [0u32; 4096];
     if n <= listing::MOST_BYTES {
         if put_lines(&mut store, &text[..n]) {
-            write_tape(&store);
+            write_tape(&rt, &store)?;
         }
     }
+    Ok(())
 }

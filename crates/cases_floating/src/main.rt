@@ -6,6 +6,7 @@ ghost use Rattle.std.specs.Prelude.{◌^◌, ◌<◌};
 
 use floating::Converted;
 use rounding::Pair;
+use std::io;
 
 const DRAWN: u32 = 12000;
 
@@ -327,19 +328,15 @@ fn drawn_fractions(start: u64) -> u64 {
     h
 }
 
-fn write_line(name: &[u8], cases: u64, h: u64) {
-    io::write_all(1, name);
-    io::print_decimal(1, cases);
-    io::write_all(1, b" ");
-    io::print_decimal(1, h);
-    io::write_all(1, b"\n");
+fn write_line(rt: &impl Print, name: &str, cases: u64, h: u64) -> io::Result<()> {
+    println!(rt; "{name} {cases} {h}")
 }
 
-fn main() {
-    write_line(b"FA ", 40800, drawn_pairs(1, edge_pairs(1)));
-    write_line(b"FS ", 40800, drawn_pairs(2, edge_pairs(2)));
-    write_line(b"FM ", 40800, drawn_pairs(3, edge_pairs(3)));
-    write_line(b"FD ", 40800, drawn_pairs(4, edge_pairs(4)));
-    write_line(b"CI ", 12288, drawn_integers(edge_integers()));
-    write_line(b"CF ", 14880, drawn_fractions(edge_fractions()));
+fn main(rt: HostRuntime) -> io::Result<()> {
+    write_line(&rt, "FA", 40800, drawn_pairs(1, edge_pairs(1)))?;
+    write_line(&rt, "FS", 40800, drawn_pairs(2, edge_pairs(2)))?;
+    write_line(&rt, "FM", 40800, drawn_pairs(3, edge_pairs(3)))?;
+    write_line(&rt, "FD", 40800, drawn_pairs(4, edge_pairs(4)))?;
+    write_line(&rt, "CI", 12288, drawn_integers(edge_integers()))?;
+    write_line(&rt, "CF", 14880, drawn_fractions(edge_fractions()))
 }

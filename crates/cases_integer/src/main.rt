@@ -2,6 +2,8 @@
 // name, the number of cases, and a checksum of every field of every result. tools/models/integer.py writes the lines that are expected.
 #![tactic(auto)]
 
+use std::io;
+
 mod operands;
 mod operation;
 
@@ -26,16 +28,15 @@ fn random(op: u32, start: u64) -> u64 {
     h
 }
 
-fn write_line(op: u32) {
+fn write_line(rt: &impl Print, op: u32) -> io::Result<()> {
     let h = random(op, edges(op));
-    operation::write_name(op);
-    io::write_all(1, b" 12197 ");
-    io::print_decimal(1, h);
-    io::write_all(1, b"\n");
+    operation::write_name(rt, op)?;
+    println!(rt; " 12197 {h}")
 }
 
-fn main() {
+fn main(rt: HostRuntime) -> io::Result<()> {
     for op in 0u32..23 {
-        write_line(op);
+        write_line(&rt, op)?;
     }
+    Ok(())
 }

@@ -2,6 +2,7 @@
 ghost use Rattle.std.specs.Prelude.{◌+◌, ◌^◌, ◌<◌, ◌≤◌, length};
 
 use crate::operands::Operands;
+use std::io;
 
 fn mix(h: u64, v: u32) -> u64 {
     (h % 4294967296 * 31 + v as u64) % 4294967296
@@ -124,13 +125,13 @@ pub fn case(op: u32, o: Operands, h: u64) -> u64
     loops(op, o, h)
 }
 
-fn write_letters(names: &[u8], i: usize)
+fn write_letters(rt: &impl Print, names: &[u8], i: usize) -> io::Result<()>
     requires { i + 2 ≤ length names.now }
 {
-    io::write_all(1, &names[i..i + 2]);
+    rt.write_all(&names[i..i + 2])
 }
 
-pub fn write_name(op: u32) {
+pub fn write_name(rt: &impl Print, op: u32) -> io::Result<()> {
     let i = (op % 23) as usize * 2;
-    write_letters(b"WAWSACAASSLALOLXICSHSLSESNSOSZWMWDASADLSLDNSND", i);
+    write_letters(rt, b"WAWSACAASSLALOLXICSHSLSESNSOSZWMWDASADLSLDNSND", i)
 }

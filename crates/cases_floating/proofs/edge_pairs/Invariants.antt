@@ -1,9 +1,0 @@
-use Prim.Native.Nat.{◌-◌, ◌≤◌}
-use Rattle.std.proofs.Common.{rules}
-use Rattle.cases_floating.proofs.edge_pairs.Given as goal
-
-abbrev pub invariant-loop-n : goal.invariant-loop-n
-invariant-loop-n l = l.n ≤ 28800
-
-abbrev pub decreases-loop-n : goal.decreases-loop-n
-decreases-loop-n l = 28800 - l.n
