@@ -425,7 +425,7 @@ returns-in-57-clause-clock c = c.timed-in-57.ensures.clock
 
 pub returns-in_default-clause-value : goal.returns-in_default-clause-value
 unfolding passing with_passed execution_time operation_time device_time execute_code lookup codes
-returns-in_default-clause-value c = λ h. unassigned_code _ _ _ _ _ h (none_from c.args.f 32 26 c.requires.0 c.in_default-own.rest)
+returns-in_default-clause-value c = λ h. unassigned_code _ _ _ _ _ h (none_from c.args.f 32 26 c.requires.0 c.in_default.in_default-own.rest)
 
 pub returns-in_default-clause-kept : goal.returns-in_default-clause-kept
 unfolding passing with_passed execution_time operation_time device_time execute_code lookup codes

@@ -647,4 +647,4 @@ unfolding passing with_passed execution_time operation_time device_time execute_
 returns-in-31-clause-clock c = c.timed-in-31.ensures.clock
 
 pub returns-in_default : goal.returns-in_default
-returns-in_default c = absurd (no_low_code c.args.f c.requires.0 c.in_default-own.rest)
+returns-in_default c = absurd (no_low_code c.args.f c.requires.0 c.in_default.in_default-own.rest)
