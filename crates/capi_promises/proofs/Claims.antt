@@ -90,7 +90,7 @@ key_flags : (f : Bool) (s : List ℕ) (r : ControlRecord) (d : Devices) (cs : Li
 unfolding judge_store autoload_lent key_handed_back record_in
 key_flags true s r d cs =
     let m = machine_lent s (record_in r) d cs [] in
-    key_number (pressing_autoload m).verdict r d (autoload_lent s (record_in r) d cs).key ∙ keys.autoload-numbers m
+    key_number (pressing_autoload m).verdict r d (autoload_lent s (record_in r) d cs).key ∙ keys.autoload_numbers m
 key_flags false s r d cs = bad_key (size_fits (length s)) (cells_fit s) r d s (autoload_lent s (record_in r) d cs)
 
 pub autoload_call_numbers : AutoloadCallNumbers

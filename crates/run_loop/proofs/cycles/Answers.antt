@@ -36,8 +36,8 @@ loop-left-preserved c = let inv = c.loop-left.invariant in
     let kept = c.cycle-e.auto in
     let end = c.end_cycle.ensures in (
       omega arith,
-      kept.0 ∙ inv.1,
-      kept.1.1.1.1.1.0 ∙ inv.2,
+      kept.s ∙ inv.1,
+      kept.typing ∙ inv.2,
       end.kept.0,
       end.kept.1,
       end.kept.2,

@@ -9,7 +9,7 @@ mark-requires c = omega arith
 
 pub returns-clause-size : goal.returns-clause-size
 returns-clause-size c = let k = c.mark.ensures in
-    k.size ∙ p
+    k.size ∙ c.requires
 
 pub returns-clause-passed : goal.returns-clause-passed
 returns-clause-passed c = let k = c.mark.ensures in
