@@ -5,10 +5,9 @@ use mathlib.Core.Logic.{◌⊎◌, inl, inr, ⊎_elim}
 use Prim.Native.Nat.{ℕ, zero, suc, ◌+◌, ◌-◌, ◌*◌, ◌/◌, ◌%◌, ◌^◌, ◌≤◌, ◌<◌}
 use native.Mathlib.Omega.{arith}
 use native.Mathlib.Decide.{dec_lt, ℕ_discrete}
-use lib.Pow.{pow_pos}
 use borrow.Author.Tests.{lt-ltb, le-ltb, eq-eqb, ne_eqb}
 use Rattle.registers.specs.Reg.{iter}
-use Rattle.registers.proofs.NonRestoring.{pass, twice}
+use Rattle.registers.proofs.NonRestoring.{twice}
 use Rattle.divide.specs.Wd.{wd_step}
 use Rattle.divide.proofs.Passes.{Divisor, step_pass}
 

@@ -1,9 +1,7 @@
 use Rattle.acceptance.specs.Accept.{control_fits}
 use borrow.Author.Tests.{le-ltb, lt-ltb}
-use Rattle.std.proofs.Common.{rules}
 use Rattle.acceptance.proofs.control_fits.Goals as goal
 
--- Made by tools/prove.py; not to be edited.
 pub returns-then-c-ge-WORD_RANGE : goal.returns-then-c-ge-WORD_RANGE
 unfolding control_fits
 returns-then-c-ge-WORD_RANGE c = rw (le-ltb _ _ c.if-c-ge-WORD_RANGE.true)

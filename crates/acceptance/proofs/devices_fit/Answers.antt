@@ -1,9 +1,7 @@
 use Rattle.acceptance.specs.Accept.{devices_fit}
 use borrow.Author.Tests.{le-ltb, lt-ltb}
-use Rattle.std.proofs.Common.{rules}
 use Rattle.acceptance.proofs.devices_fit.Goals as goal
 
--- Made by tools/prove.py; not to be edited.
 pub returns-then-d-ge-WORD_RANGE : goal.returns-then-d-ge-WORD_RANGE
 unfolding devices_fit
 returns-then-d-ge-WORD_RANGE c = rw (le-ltb _ _ c.if-d-ge-WORD_RANGE.true)

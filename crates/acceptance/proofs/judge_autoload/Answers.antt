@@ -1,5 +1,4 @@
 use Rattle.acceptance.specs.Accept.{judge_autoload}
-use Rattle.std.proofs.Common.{rules}
 use Rattle.acceptance.proofs.judge_autoload.Goals as goal
 
 pub returns : goal.returns

@@ -1,5 +1,4 @@
 use borrow.Author.Tests.{le-ltb, lt-ltb}
-use Rattle.std.proofs.Common.{rules}
 use Rattle.acceptance.proofs.judge_call.Goals as goal
 
 pub returns-then-lines-ge-LINE_RANGE : goal.returns-then-lines-ge-LINE_RANGE

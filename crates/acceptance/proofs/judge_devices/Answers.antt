@@ -1,5 +1,3 @@
-use borrow.Author.Tests.{not-true, not-false}
-use Rattle.std.proofs.Common.{rules}
 use Rattle.acceptance.proofs.judge_devices.Goals as goal
 
 pub returns-then-not-devices_fit : goal.returns-then-not-devices_fit

@@ -1,6 +1,4 @@
-use borrow.Author.Tests.{not-true, not-false}
 use Rattle.acceptance.specs.Accept.{judge_machine}
-use Rattle.std.proofs.Common.{rules}
 use Rattle.acceptance.proofs.judge_machine.Goals as goal
 
 pub returns-then-not-timer_fits : goal.returns-then-not-timer_fits

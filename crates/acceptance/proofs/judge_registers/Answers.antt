@@ -1,6 +1,4 @@
-use borrow.Author.Tests.{not-true, not-false}
 use Rattle.acceptance.specs.Accept.{judge_registers}
-use Rattle.std.proofs.Common.{rules}
 use Rattle.acceptance.proofs.judge_registers.Goals as goal
 
 pub returns-then-not-size_fits : goal.returns-then-not-size_fits

@@ -1,5 +1,4 @@
 use Rattle.acceptance.specs.Accept.{judge_run}
-use Rattle.std.proofs.Common.{rules}
 use Rattle.acceptance.proofs.judge_run.Goals as goal
 
 pub returns : goal.returns

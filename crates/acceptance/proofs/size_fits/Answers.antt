@@ -1,9 +1,7 @@
 use Rattle.acceptance.specs.Accept.{size_fits}
 use borrow.Author.Tests.{lt-ltb, le-ltb}
-use Rattle.std.proofs.Common.{rules}
 use Rattle.acceptance.proofs.size_fits.Goals as goal
 
--- Made by tools/prove.py; not to be edited.
 pub returns-then-n-lt8 : goal.returns-then-n-lt8
 unfolding size_fits
 returns-then-n-lt8 c = rw (lt-ltb _ _ c.if-n-lt8.true)

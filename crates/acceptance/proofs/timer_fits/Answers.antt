@@ -1,9 +1,7 @@
 use Rattle.acceptance.specs.Accept.{timer_fits}
 use borrow.Author.Tests.{eq-eqb, lt-ltb, ne_eqb, le-ltb}
-use Rattle.std.proofs.Common.{rules}
 use Rattle.acceptance.proofs.timer_fits.Goals as goal
 
--- Made by tools/prove.py; not to be edited.
 pub returns-then-t-eq0 : goal.returns-then-t-eq0
 unfolding timer_fits
 returns-then-t-eq0 c = rw (eq-eqb _ _ c.if-t-eq0.true)

@@ -3,7 +3,6 @@ use borrow.Author.Tests.{eq-eqb, ne_eqb}
 use Rattle.std.proofs.Common.{rules}
 use Rattle.channel_row.proofs.write.Goals as goal
 
--- Made by tools/prove.py; not to be edited.
 pub returns-then-device-eq0-clause-value : goal.returns-then-device-eq0-clause-value
 unfolding write_to
 returns-then-device-eq0-clause-value c = rw (eq-eqb _ _ c.if-device-eq0.true)

@@ -3,7 +3,6 @@ use borrow.Author.Tests.{eq-eqb, ne_eqb}
 use Rattle.std.proofs.Common.{rules}
 use Rattle.control_row.proofs.note_overflow.Goals as goal
 
--- Made by tools/prove.py; not to be edited.
 pub returns-then-over-eq0-clause-value : goal.returns-then-over-eq0-clause-value
 unfolding overflowed
 returns-then-over-eq0-clause-value c = rw (eq-eqb _ _ c.if-over-eq0.true)

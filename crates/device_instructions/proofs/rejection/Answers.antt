@@ -2,7 +2,6 @@ use Rattle.definition_instructions.specs.Meaning.{rejection}
 use Rattle.std.proofs.Common.{rules}
 use Rattle.device_instructions.proofs.rejection.Goals as goal
 
--- Made by tools/prove.py; not to be edited.
 pub returns-then-rejected-clause-value : goal.returns-then-rejected-clause-value
 unfolding rejection
 returns-then-rejected-clause-value c = rw c.if-rejected.true

@@ -1,6 +1,5 @@
 use Rattle.divide.specs.Wd.{wd_correction}
 use borrow.Author.Tests.{eq-eqb, lt-ltb, ne_eqb, le-ltb}
-use Rattle.std.proofs.Common.{rules}
 use Rattle.divide.proofs.correct.Goals as goal
 
 pub returns-then-ar-br-clause-value : goal.returns-then-ar-br-clause-value

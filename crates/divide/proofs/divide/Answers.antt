@@ -1,5 +1,4 @@
 use Rattle.divide.specs.Wd.{wd}
-use Rattle.std.proofs.Common.{rules}
 use Rattle.divide.proofs.divide.Goals as goal
 
 pub returns-clause-value : goal.returns-clause-value

@@ -1,6 +1,5 @@
 use Rattle.divide.specs.Wd.{wd_end}
 use borrow.Author.Tests.{eq-eqb, ne_eqb}
-use Rattle.std.proofs.Common.{rules}
 use Rattle.divide.proofs.finish.Goals as goal
 
 pub returns-then-ar-br-clause-value : goal.returns-then-ar-br-clause-value

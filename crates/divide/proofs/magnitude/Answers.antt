@@ -1,6 +1,5 @@
 use Rattle.divide.specs.Wd.{abs24}
 use borrow.Author.Tests.{lt-ltb, le-ltb}
-use Rattle.std.proofs.Common.{rules}
 use Rattle.divide.proofs.magnitude.Goals as goal
 
 pub returns-then-x-lt-BIT_0 : goal.returns-then-x-lt-BIT_0

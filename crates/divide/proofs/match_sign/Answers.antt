@@ -1,6 +1,5 @@
 use Rattle.divide.specs.Wd.{wd_sign}
 use borrow.Author.Tests.{eq-eqb, ne_eqb}
-use Rattle.std.proofs.Common.{rules}
 use Rattle.divide.proofs.match_sign.Goals as goal
 
 pub returns-then-ar-eq0-clause-value : goal.returns-then-ar-eq0-clause-value

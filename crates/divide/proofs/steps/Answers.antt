@@ -1,9 +1,7 @@
 use native.Mathlib.Omega.{arith}
-use Rattle.registers.specs.Reg.{iter}
 use Rattle.registers.proofs.Loops.{iter_none, iter_next}
-use Prim.Native.Nat.{◌≤◌, ◌<◌, ◌-◌, ◌^◌}
 use mathlib.Core.Path.{◌≡◌}
-use Rattle.divide.specs.Wd.{wd_step, wd_loop}
+use Rattle.divide.specs.Wd.{wd_loop}
 use Rattle.std.proofs.Common.{rules}
 use Rattle.divide.proofs.steps.Goals as goal
 

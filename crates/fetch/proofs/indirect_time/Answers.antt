@@ -3,7 +3,6 @@ use borrow.Author.Tests.{eq-eqb, lt-ltb, ne_eqb, le-ltb}
 use Rattle.std.proofs.Common.{rules}
 use Rattle.fetch.proofs.indirect_time.Goals as goal
 
--- Made by tools/prove.py; not to be edited.
 pub returns-then-m-eq0 : goal.returns-then-m-eq0
 unfolding indirect_time
 returns-then-m-eq0 c = rw (eq-eqb _ _ c.if-m-eq0.true)

@@ -1,5 +1,4 @@
 use Rattle.floating.specs.Add.{fa}
-use Rattle.std.proofs.Common.{rules}
 use Rattle.floating.proofs.add.Goals as goal
 
 pub returns : goal.returns

@@ -1,5 +1,4 @@
 use Rattle.floating.specs.Divide.{fd}
-use Rattle.std.proofs.Common.{rules}
 use Rattle.floating.proofs.divide.Goals as goal
 
 pub returns : goal.returns

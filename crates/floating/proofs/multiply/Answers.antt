@@ -1,5 +1,4 @@
 use Rattle.floating.specs.Multiply.{fm}
-use Rattle.std.proofs.Common.{rules}
 use Rattle.floating.proofs.multiply.Goals as goal
 
 pub returns : goal.returns

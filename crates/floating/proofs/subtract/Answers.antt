@@ -1,5 +1,4 @@
 use Rattle.floating.specs.Add.{fs}
-use Rattle.std.proofs.Common.{rules}
 use Rattle.floating.proofs.subtract.Goals as goal
 
 pub returns : goal.returns

@@ -1,6 +1,4 @@
 use Rattle.integer.specs.Sums.{sum}
-use Rattle.std.proofs.Common.{rules}
-use Rattle.std.proofs.Common.{rules}
 use Rattle.integer.proofs.add.Goals as goal
 
 pub returns-clause-value : goal.returns-clause-value

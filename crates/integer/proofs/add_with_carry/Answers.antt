@@ -1,6 +1,4 @@
 use Rattle.integer.specs.Sums.{sum_with_carry}
-use Rattle.std.proofs.Common.{rules}
-use Rattle.std.proofs.Common.{rules}
 use Rattle.integer.proofs.add_with_carry.Goals as goal
 
 pub returns-clause-value : goal.returns-clause-value

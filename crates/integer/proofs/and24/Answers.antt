@@ -1,7 +1,6 @@
 use lib.Bits.{and_lt}
 use Rattle.integer.proofs.Digits.{and_is}
 use Rattle.integer.specs.Bitwise.{logical_and}
-use Rattle.std.proofs.Common.{rules}
 use Rattle.integer.proofs.and24.Goals as goal
 
 pub returns-clause-value : goal.returns-clause-value

@@ -1,7 +1,6 @@
 use Rattle.std.proofs.Common.{refl}
 use Rattle.integer.proofs.Digits.{miss_is}
 use Rattle.integer.specs.Skip.{bits_one}
-use Rattle.std.proofs.Common.{rules}
 use Rattle.integer.proofs.bits_one.Goals as goal
 
 pub returns : goal.returns

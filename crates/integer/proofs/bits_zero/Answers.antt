@@ -1,7 +1,6 @@
 use Rattle.std.proofs.Common.{refl}
 use Rattle.integer.proofs.Digits.{select_is}
 use Rattle.integer.specs.Skip.{bits_zero}
-use Rattle.std.proofs.Common.{rules}
 use Rattle.integer.proofs.bits_zero.Goals as goal
 
 pub returns : goal.returns

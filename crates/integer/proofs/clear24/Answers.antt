@@ -1,7 +1,6 @@
 use lib.Bits.{and_lt, xor_lt}
 use Rattle.integer.proofs.Digits.{clear_is}
 use Rattle.integer.specs.Bitwise.{cleared}
-use Rattle.std.proofs.Common.{rules}
 use Rattle.integer.proofs.clear24.Goals as goal
 
 pub returns-clause-value : goal.returns-clause-value

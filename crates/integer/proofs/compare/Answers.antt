@@ -1,5 +1,3 @@
-use Rattle.std.proofs.Common.{rules}
-use Rattle.std.proofs.Common.{rules}
 use Rattle.integer.proofs.compare.Goals as goal
 
 pub returns : goal.returns

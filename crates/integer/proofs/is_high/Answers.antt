@@ -1,6 +1,5 @@
 use Rattle.integer.specs.Skip.{is_high}
-use Rattle.std.proofs.Common.{rules, le-ltb, lt-ltb}
-use Rattle.std.proofs.Common.{rules}
+use Rattle.std.proofs.Common.{le-ltb, lt-ltb}
 use Rattle.integer.proofs.is_high.Goals as goal
 
 pub returns-then-ar-gt0 : goal.returns-then-ar-gt0

@@ -1,6 +1,4 @@
 use Rattle.integer.specs.Skip.{is_low}
-use Rattle.std.proofs.Common.{rules}
-use Rattle.std.proofs.Common.{rules}
 use Rattle.integer.proofs.is_low.Goals as goal
 
 pub returns : goal.returns

@@ -1,7 +1,6 @@
 use lib.Bits.{or_lt}
 use Rattle.integer.proofs.Digits.{or_is}
 use Rattle.integer.specs.Bitwise.{logical_or}
-use Rattle.std.proofs.Common.{rules}
 use Rattle.integer.proofs.or24.Goals as goal
 
 pub returns-clause-value : goal.returns-clause-value

@@ -1,7 +1,6 @@
 use lib.Bits.{xor_lt}
 use Rattle.integer.proofs.Digits.{xor_is}
 use Rattle.integer.specs.Bitwise.{logical_xor}
-use Rattle.std.proofs.Common.{rules}
 use Rattle.integer.proofs.xor24.Goals as goal
 
 pub returns-clause-value : goal.returns-clause-value

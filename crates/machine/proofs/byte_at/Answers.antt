@@ -1,6 +1,5 @@
 use Rattle.machine.specs.Store.{byte}
 use borrow.Author.Tests.{eq-eqb, ne_eqb}
-use Rattle.std.proofs.Common.{rules}
 use Rattle.machine.proofs.byte_at.Goals as goal
 
 pub returns-then-a-eq0-clause-value : goal.returns-then-a-eq0-clause-value

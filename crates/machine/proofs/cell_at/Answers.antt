@@ -1,6 +1,5 @@
 use Prim.Native.Nat.{ℕ}
 use lib.ListN.{get_or-eq_default}
-use Rattle.std.proofs.Common.{rules}
 use Rattle.machine.proofs.cell_at.Goals as goal
 
 pub returns-else-j-s : goal.returns-else-j-s

@@ -1,6 +1,5 @@
 use Rattle.machine.specs.Store.{first_word}
 use borrow.Author.Tests.{eq-eqb, ne_eqb}
-use Rattle.std.proofs.Common.{rules}
 use Rattle.machine.proofs.first_word.Goals as goal
 
 pub returns-then-a-eq0 : goal.returns-then-a-eq0

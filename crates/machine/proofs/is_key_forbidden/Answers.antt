@@ -3,7 +3,6 @@ use mathlib.Core.Path.{◌≡◌, ap}
 use lib.Dec.{eqb}
 use native.Mathlib.Omega.{arith}
 use Rattle.machine.specs.Store.{forbids}
-use Rattle.std.proofs.Common.{rules}
 use Rattle.machine.proofs.is_key_forbidden.Goals as goal
 
 -- bit k from the left of the last eight: shifted left by k it has the weight 128

@@ -1,5 +1,4 @@
 use Rattle.machine.specs.Store.{pair}
-use Rattle.std.proofs.Common.{rules}
 use Rattle.machine.proofs.pair_at.Goals as goal
 
 pub returns-clause-value : goal.returns-clause-value

@@ -1,5 +1,4 @@
 use Rattle.machine.specs.Store.{put_byte}
-use Rattle.std.proofs.Common.{rules}
 use Rattle.machine.proofs.put_byte.Goals as goal
 
 pub returns : goal.returns

@@ -1,6 +1,5 @@
 use mathlib.Core.Path.{sym}
 use lib.Seq.{set_out}
-use Rattle.std.proofs.Common.{rules}
 use Rattle.machine.proofs.put_cell.Goals as goal
 
 pub returns-else-j-s : goal.returns-else-j-s

@@ -1,5 +1,4 @@
 use Rattle.machine.specs.Store.{put_key}
-use Rattle.std.proofs.Common.{rules}
 use Rattle.machine.proofs.put_key.Goals as goal
 
 pub returns : goal.returns

@@ -1,9 +1,7 @@
 use Rattle.machine.specs.Store.{put_link}
 use borrow.Author.Tests.{eq-eqb, ne_eqb}
-use Rattle.std.proofs.Common.{rules}
 use Rattle.machine.proofs.put_link.Goals as goal
 
--- Made by tools/prove.py; not to be edited.
 pub returns-then-w-eq0 : goal.returns-then-w-eq0
 unfolding put_link
 returns-then-w-eq0 c = rw (eq-eqb _ _ c.if-w-eq0.true)

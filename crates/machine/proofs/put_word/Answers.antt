@@ -1,5 +1,4 @@
 use Rattle.machine.specs.Store.{put_word}
-use Rattle.std.proofs.Common.{rules}
 use Rattle.machine.proofs.put_word.Goals as goal
 
 pub returns : goal.returns

@@ -1,7 +1,6 @@
 use mathlib.Core.Path.{sym}
 use Rattle.multiply.proofs.Product.{steps_product}
 use Rattle.multiply.proofs.Signed.{times_fits, sum_fits, sum_read, product_below}
-use Rattle.std.proofs.Common.{rules}
 use Rattle.multiply.proofs.multiply.Goals as goal
 
 pub overflow_mul-x : goal.overflow_mul-x

@@ -1,7 +1,6 @@
 use native.Mathlib.Omega.{arith}
 use mathlib.Core.Path.{ap, ◌∙◌}
 use Rattle.multiply.proofs.Signed.{number, less_fits, cast_fits, number_read}
-use Rattle.std.proofs.Common.{rules}
 use Rattle.multiply.proofs.signed_number.Goals as goal
 
 pub overflow_sub-result : goal.overflow_sub-result

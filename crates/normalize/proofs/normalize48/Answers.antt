@@ -1,14 +1,11 @@
 use lib.Pow.{pow_pos}
 use mathlib.Core.Bool.{not}
-use Rattle.normalize.proofs.Grow.{Apart, grow, apart_lt}
+use Rattle.normalize.proofs.Grow.{grow, apart_lt}
 use Rattle.normalize.specs.Norm.{normal_at, norm_step, normalize}
-use Rattle.registers.specs.Reg.{until}
 use borrow.Author.Tests.{eq-eqb, ne_eqb}
 use native.Mathlib.Omega.{arith}
 use Rattle.registers.proofs.Loops.{until_stop, until_next}
-use mathlib.Core.Path.{◌≡◌, refl, sym, ap, ◌∙◌}
-use Prim.Native.Nat.{◌-◌}
-use Rattle.std.proofs.Common.{rules}
+use mathlib.Core.Path.{refl, sym, ap, ◌∙◌}
 use Rattle.normalize.proofs.normalize48.Goals as goal
 
 pub loop-x-init : goal.loop-x-init

@@ -1,9 +1,7 @@
 use Rattle.normalize.specs.Norm.{normalized}
 use borrow.Author.Tests.{eq-eqb, ne_eqb}
-use Rattle.std.proofs.Common.{rules}
 use Rattle.normalize.proofs.normalize_double.Goals as goal
 
--- Made by tools/prove.py; not to be edited.
 pub returns-then-w-eq0-clause-value : goal.returns-then-w-eq0-clause-value
 unfolding normalized
 returns-then-w-eq0-clause-value c = rw (eq-eqb _ _ c.if-w-eq0.true)

@@ -2,7 +2,6 @@ use Rattle.normalize.proofs.Narrow.{back}
 use mathlib.Core.Path.{refl}
 use borrow.Author.Tests.{eq-eqb, ne_eqb}
 use Rattle.normalize.specs.Norm.{normalized}
-use Rattle.std.proofs.Common.{rules}
 use Rattle.normalize.proofs.normalize_single.Goals as goal
 
 pub returns-then-w-eq0-clause-value : goal.returns-then-w-eq0-clause-value

@@ -1,6 +1,5 @@
 use Rattle.normalize.specs.Norm.{shifts_by}
 use borrow.Author.Tests.{eq-eqb, ne_eqb}
-use Rattle.std.proofs.Common.{rules}
 use Rattle.normalize.proofs.shifts_made.Goals as goal
 
 pub returns-then-b-eq2048-clause-value : goal.returns-then-b-eq2048-clause-value

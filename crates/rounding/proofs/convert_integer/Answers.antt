@@ -1,9 +1,7 @@
 use Rattle.rounding.specs.Convert.{ci}
 use borrow.Author.Tests.{eq-eqb, ne_eqb}
-use Rattle.std.proofs.Common.{rules}
 use Rattle.rounding.proofs.convert_integer.Goals as goal
 
--- Made by tools/prove.py; not to be edited.
 pub returns-then-w-eq0 : goal.returns-then-w-eq0
 unfolding ci
 returns-then-w-eq0 c = rw (eq-eqb _ _ c.if-w-eq0.true)

@@ -1,7 +1,6 @@
 use Rattle.rounding.specs.Convert.{integer_shifts}
 use Rattle.rounding.proofs.Count.{shifts_back}
 use borrow.Author.Tests.{eq-eqb}
-use Rattle.std.proofs.Common.{rules}
 use Rattle.rounding.proofs.integer_shifts.Goals as goal
 
 pub returns-then-w-eq0-clause-value : goal.returns-then-w-eq0-clause-value

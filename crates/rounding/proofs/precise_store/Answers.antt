@@ -1,4 +1,3 @@
-use Rattle.std.proofs.Common.{rules}
 use Rattle.rounding.proofs.precise_store.Goals as goal
 
 pub returns : goal.returns

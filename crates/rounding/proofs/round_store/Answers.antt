@@ -1,5 +1,4 @@
 use Rattle.rounding.specs.Store.{round_store}
-use Rattle.std.proofs.Common.{rules}
 use Rattle.rounding.proofs.round_store.Goals as goal
 
 pub returns : goal.returns

@@ -1,6 +1,5 @@
 use mathlib.Core.Path.{ap, ◌∙◌}
 use Rattle.shift.proofs.Narrow.{upper, at_left}
-use Rattle.std.proofs.Common.{rules}
 use Rattle.shift.proofs.arithmetic24.Goals as goal
 
 pub returns-clause-value : goal.returns-clause-value

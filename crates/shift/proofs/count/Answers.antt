@@ -3,7 +3,6 @@ use borrow.Author.Tests.{lt-ltb, le-ltb}
 use Rattle.std.proofs.Common.{rules}
 use Rattle.shift.proofs.count.Goals as goal
 
--- Made by tools/prove.py; not to be edited.
 pub returns-then-m-lt64 : goal.returns-then-m-lt64
 unfolding places
 returns-then-m-lt64 c = (rw (lt-ltb _ _ c.if-m-lt64.true), search rules)

@@ -1,9 +1,6 @@
 use native.Mathlib.Omega.{arith}
-use Rattle.registers.specs.Reg.{iter}
-use Rattle.shift.specs.Shift.{left_step}
 use Rattle.registers.proofs.Loops.{iter_none, iter_next}
 use mathlib.Core.Path.{◌≡◌}
-use Prim.Native.Nat.{◌≤◌, ◌<◌, ◌-◌, ◌^◌}
 use Rattle.std.proofs.Common.{rules}
 use Rattle.shift.proofs.left48.Goals as goal
 

@@ -1,7 +1,6 @@
 use mathlib.Core.Path.{ap, ◌∙◌}
 use Prim.Native.Nat.{ℕ, ◌%◌, ◌^◌}
 use Rattle.shift.proofs.Narrow.{at_right}
-use Rattle.std.proofs.Common.{rules}
 use Rattle.shift.proofs.logical24.Goals as goal
 
 pub returns-clause-value : goal.returns-clause-value

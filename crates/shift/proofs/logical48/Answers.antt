@@ -1,6 +1,5 @@
 use Rattle.shift.specs.Shift.{logical, shifts_made}
 use borrow.Author.Tests.{lt-ltb, le-ltb}
-use Rattle.std.proofs.Common.{rules}
 use Rattle.shift.proofs.logical48.Goals as goal
 
 pub returns-then-sb-lt-BIT_0-clause-value : goal.returns-then-sb-lt-BIT_0-clause-value

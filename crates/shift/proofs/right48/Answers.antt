@@ -1,8 +1,6 @@
 use native.Mathlib.Omega.{arith}
-use Rattle.registers.specs.Reg.{asr, iter}
 use Rattle.registers.proofs.Loops.{iter_none, iter_next}
 use mathlib.Core.Path.{◌≡◌, refl}
-use Prim.Native.Nat.{◌≤◌, ◌<◌, ◌-◌, ◌^◌}
 use Rattle.std.proofs.Common.{rules}
 use Rattle.shift.proofs.right48.Goals as goal
 

@@ -1,9 +1,6 @@
-use native.Mathlib.Omega.{arith}
 use Rattle.registers.specs.Reg.{asr, iter}
-use Rattle.registers.proofs.Loops.{iter_none, iter_next}
-use mathlib.Core.Path.{◌≡◌, refl}
+use mathlib.Core.Path.{◌≡◌}
 use Prim.Native.Nat.{◌≤◌, ◌<◌, ◌-◌, ◌^◌}
-use Rattle.std.proofs.Common.{rules}
 use Rattle.shift.proofs.right48.Given as goal
 
 abbrev pub invariant-loop-i : goal.invariant-loop-i

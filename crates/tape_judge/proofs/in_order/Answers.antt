@@ -2,7 +2,6 @@ use Rattle.definition_tape.specs.Judge.{in_order}
 use Rattle.std.proofs.Common.{rules}
 use Rattle.tape_judge.proofs.in_order.Goals as goal
 
--- Made by tools/prove.py; not to be edited.
 pub returns-then-after : goal.returns-then-after
 unfolding in_order
 returns-then-after c = rw c.if-after.true

@@ -3,7 +3,6 @@ use borrow.Author.Tests.{lt-leb, le-leb}
 use Rattle.std.proofs.Common.{rules}
 use Rattle.tape_judge.proofs.judge_tape.Goals as goal
 
--- Made by tools/prove.py; not to be edited.
 pub returns-then-tape-gt-MOST_BYTES : goal.returns-then-tape-gt-MOST_BYTES
 unfolding judge_tape
 returns-then-tape-gt-MOST_BYTES c = rw (lt-leb _ _ c.if-tape-gt-MOST_BYTES.true)

@@ -3,7 +3,6 @@ use borrow.Author.Tests.{lt-ltb, le-ltb}
 use Rattle.std.proofs.Common.{rules}
 use Rattle.tape_judge.proofs.kind_known.Goals as goal
 
--- Made by tools/prove.py; not to be edited.
 pub returns-then-k-lt1 : goal.returns-then-k-lt1
 unfolding kind_known
 returns-then-k-lt1 c = rw (lt-ltb _ _ c.if-k-lt1.true)

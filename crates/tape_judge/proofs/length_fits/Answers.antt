@@ -3,7 +3,6 @@ use borrow.Author.Tests.{eq-eqb, ne_eqb}
 use Rattle.std.proofs.Common.{rules}
 use Rattle.tape_judge.proofs.length_fits.Goals as goal
 
--- Made by tools/prove.py; not to be edited.
 pub returns-then-l-ne0 : goal.returns-then-l-ne0
 unfolding length_fits
 returns-then-l-ne0 c = rw (eq-eqb _ _ c.if-k-eq1.true, ne_eqb _ _ c.if-l-ne0.true)

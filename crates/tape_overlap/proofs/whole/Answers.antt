@@ -3,7 +3,6 @@ use borrow.Author.Tests.{lt-ltb, le-ltb}
 use Rattle.std.proofs.Common.{rules}
 use Rattle.tape_overlap.proofs.whole.Goals as goal
 
--- Made by tools/prove.py; not to be edited.
 pub returns-then-t-lt6 : goal.returns-then-t-lt6
 unfolding is_whole
 returns-then-t-lt6 c = rw (lt-ltb _ _ c.if-t-lt6.true)

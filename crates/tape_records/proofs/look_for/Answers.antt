@@ -2,7 +2,6 @@ use Rattle.tape_records.specs.Looks.{look_for}
 use borrow.Author.Tests.{lt-ltb, eq-eqb, le-ltb, ne_eqb, le-leb, lt-leb}
 use Rattle.tape_records.proofs.look_for.Goals as goal
 
--- Made by tools/prove.py; not to be edited.
 pub returns-then-t-lt6 : goal.returns-then-t-lt6
 unfolding look_for
 returns-then-t-lt6 c = rw (lt-ltb _ _ c.if-t-lt6.true)

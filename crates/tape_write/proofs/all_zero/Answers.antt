@@ -25,9 +25,6 @@ zero_or_not : (z : Bool) → z ≡ cond z true false
 zero_or_not true = refl
 zero_or_not false = refl
 
-pub loop-i-init : goal.loop-i-init
-loop-i-init c = (search rules, refl)
-
 pub loop-i-preserved : goal.loop-i-preserved
 loop-i-preserved c = let was = c.loop-i in
     let within = c.loop-i-test.true in (

@@ -17,52 +17,12 @@ pub zero_cells-i-requires : goal.zero_cells-i-requires
 zero_cells-i-requires c = let l = c.loop-at in
     (blocks_left c.args.store.now l.i (omega (arith, l.invariant, c.requires, c.loop-at-test.true)), c.if-store-i-eq0.true)
 
-pub overflow_add-i : goal.overflow_add-i
-overflow_add-i c = omega (arith, c.zero_cells-i.ensures)
-
-pub loop-at-smaller-then-store-i-eq0 : goal.loop-at-smaller-then-store-i-eq0
-loop-at-smaller-then-store-i-eq0 c = omega (arith, c.zero_cells-i.ensures)
-
-pub loop-at-preserved-then-store-i-eq0 : goal.loop-at-preserved-then-store-i-eq0
-loop-at-preserved-then-store-i-eq0 c = let l = c.loop-at in
-    let z = c.zero_cells-i.ensures in
-    (omega arith, l.invariant.1, rw z.blocks l.invariant.2, rw z.blocks l.invariant.3)
-
-pub stretch_length-k-requires : goal.stretch_length-k-requires
-stretch_length-k-requires c = let l = c.loop-at in
-    (blocks_left c.args.store.now l.i (omega (arith, l.invariant, c.requires, c.loop-at-test.true)), c.if-store-i-eq0.false)
-
-pub overflow_add-end : goal.overflow_add-end
-overflow_add-end c = omega (arith, c.stretch_length-k.ensures)
-
-pub overflow_cast-i : goal.overflow_cast-i
-overflow_cast-i c = omega (arith, c.requires)
-
 pub put_stretch-requires : goal.put_stretch-requires
 put_stretch-requires c = let a = c.args in
     let l = c.loop-at in
     let k = c.stretch_length-k in
     part_fits a.store.now l.i k.result k.ensures.value k.ensures.some k.ensures.bound l.at (length l.out) c.requires.0
     (omega (arith, l.invariant, c.requires))
-
-pub block_size-at-requires : goal.block_size-at-requires
-block_size-at-requires c = omega (arith, c.stretch_length-k.ensures, c.requires)
-
-pub overflow_add-at : goal.overflow_add-at
-overflow_add-at c = let a = c.args in
-    let l = c.loop-at in
-    let k = c.stretch_length-k in
-    let z = size_step a.store.now l.i k.result k.ensures.value k.ensures.some k.ensures.bound in
-    omega (arith, l.invariant, c.requires, c.block_size-at.ensures)
-
-pub overflow_add-i-else-store-i-eq0 : goal.overflow_add-i-else-store-i-eq0
-overflow_add-i-else-store-i-eq0 c = omega (arith, c.stretch_length-k.ensures, c.requires)
-
-pub overflow_add-i-else-store-i-eq0-2 : goal.overflow_add-i-else-store-i-eq0-2
-overflow_add-i-else-store-i-eq0-2 c = omega (arith, c.stretch_length-k.ensures, c.requires)
-
-pub loop-at-smaller : goal.loop-at-smaller
-loop-at-smaller c = omega (arith, c.stretch_length-k.ensures)
 
 pub loop-at-preserved : goal.loop-at-preserved
 loop-at-preserved c = let a = c.args in

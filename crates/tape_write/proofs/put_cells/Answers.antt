@@ -1,7 +1,6 @@
-use mathlib.Core.Path.{◌≡◌, refl, ◌∙◌}
+use mathlib.Core.Path.{refl, ◌∙◌}
 use native.Mathlib.Omega.{arith}
-use lib.ListN.{length}
-use Rattle.tape_write.proofs.Puts.{cells_none, cells_more, cells_all}
+use Rattle.tape_write.proofs.Puts.{cells_none, cells_more}
 use Rattle.tape_write.proofs.put_cells.Goals as goal
 
 pub loop-i-init : goal.loop-i-init
@@ -12,9 +11,3 @@ loop-i-preserved c = let a = c.args in
     let l = c.loop-i in
     let n = c.put_number in
     (omega arith, n.auto.out ∙ l.invariant.1, cells_more a.out.now l.out _ a.at l.i _ a.cells.now (omega arith) c.loop-i-test.true l.invariant.2 refl n.ensures)
-
-pub returns : goal.returns
-returns c = let a = c.args in
-    let l = c.loop-i in
-    let all : l.i ≡ length a.cells.now = omega arith in
-    cells_all a.out.now l.out a.at l.i a.cells.now all l.invariant.2

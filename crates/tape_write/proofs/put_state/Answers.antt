@@ -1,16 +1,6 @@
 use native.Mathlib.Omega.{arith}
-use lib.ListN.{length-set}
 use Rattle.tape_write.proofs.Puts.{four_stores}
 use Rattle.tape_write.proofs.put_state.Goals as goal
-
-pub bounds-out-at-2 : goal.bounds-out-at-2
-bounds-out-at-2 c = simp length-set (omega arith)
-
-pub bounds-out-at-3 : goal.bounds-out-at-3
-bounds-out-at-3 c = simp length-set (omega arith)
-
-pub bounds-out-at-4 : goal.bounds-out-at-4
-bounds-out-at-4 c = simp length-set (omega arith)
 
 pub returns : goal.returns
 returns c = rw (c.low.ensures, c.low-2.ensures, c.flags_byte.ensures) (four_stores _ _ _ _ _ _ (omega arith))

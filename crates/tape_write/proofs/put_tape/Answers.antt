@@ -20,10 +20,6 @@ pub put_control-requires : goal.put_control-requires
 put_control-requires c = let e = length_tape c.args.store.now c.args.r (remark_of c.args.given c.args.text.now) in
     omega (arith, c.requires)
 
-pub overflow_add-end : goal.overflow_add-end
-overflow_add-end c = let e = length_tape c.args.store.now c.args.r (remark_of c.args.given c.args.text.now) in
-    omega (arith, c.requires)
-
 pub put_header-requires : goal.put_header-requires
 put_header-requires c = let e = length_tape c.args.store.now c.args.r (remark_of c.args.given c.args.text.now) in
     omega (arith, c.requires)

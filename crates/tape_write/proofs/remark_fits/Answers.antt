@@ -2,7 +2,6 @@ use Rattle.definition_tape.specs.Writing.{remark_fits}
 use Rattle.std.proofs.Common.{rules}
 use Rattle.tape_write.proofs.remark_fits.Goals as goal
 
--- Made by tools/prove.py; not to be edited.
 pub returns-then-given : goal.returns-then-given
 unfolding remark_fits
 returns-then-given c = rw c.if-given.true

@@ -2,22 +2,9 @@ use native.Mathlib.Omega.{arith}
 use Rattle.tape_write.proofs.Passes.{stretch_stops, stretch_goes, stretch_ends}
 use Rattle.tape_write.proofs.stretch_length.Goals as goal
 
-pub loop-end-init : goal.loop-end-init
-loop-end-init c = (omega arith, omega arith, omega arith)
-
 pub returns-then-store-end-eq0-clause-value : goal.returns-then-store-end-eq0-clause-value
 returns-then-store-end-eq0-clause-value c = let l = c.loop-end in
     let z = stretch_stops c.args.store.now l.end c.loop-end-test.true c.if-store-end-eq0.true in
-    omega (arith, l.invariant)
-
-pub returns-then-store-end-eq0-clause-bound : goal.returns-then-store-end-eq0-clause-bound
-returns-then-store-end-eq0-clause-bound c = let l = c.loop-end in
-    omega (arith, l.invariant)
-
-pub returns-then-store-end-eq0-clause-some : goal.returns-then-store-end-eq0-clause-some
-returns-then-store-end-eq0-clause-some c = let l = c.loop-end in
-    let z = stretch_stops c.args.store.now l.end c.loop-end-test.true c.if-store-end-eq0.true in
-    let g = stretch_goes c.args.store.now c.args.first c.requires.0 c.requires.1 in
     omega (arith, l.invariant)
 
 pub loop-end-preserved : goal.loop-end-preserved
@@ -29,12 +16,4 @@ loop-end-preserved c = let s = c.args.store.now in
 pub returns-clause-value : goal.returns-clause-value
 returns-clause-value c = let l = c.loop-end in
     let z = stretch_ends c.args.store.now l.end (omega arith) in
-    omega (arith, l.invariant)
-
-pub returns-clause-bound : goal.returns-clause-bound
-returns-clause-bound c = let l = c.loop-end in
-    omega (arith, l.invariant)
-
-pub returns-clause-some : goal.returns-clause-some
-returns-clause-some c = let l = c.loop-end in
     omega (arith, l.invariant)

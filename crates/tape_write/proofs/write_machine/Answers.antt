@@ -10,9 +10,6 @@ returns-then-not-remark_fits-clause-answer c = rw c.refused.ensures
 pub returns-then-not-remark_fits-clause-bytes : goal.returns-then-not-remark_fits-clause-bytes
 returns-then-not-remark_fits-clause-bytes c = (remark_long _ _ _ _ (sym c.remark_fits.ensures ∙ c.if-not-remark_fits.true)).1
 
-pub tape_length-n-requires : goal.tape_length-n-requires
-tape_length-n-requires c = (c.requires, sym c.remark_fits.ensures ∙ c.if-not-remark_fits.false)
-
 pub returns-then-n-gt-MOST_BYTES-clause-answer : goal.returns-then-n-gt-MOST_BYTES-clause-answer
 returns-then-n-gt-MOST_BYTES-clause-answer c = let f = sym c.remark_fits.ensures ∙ c.if-not-remark_fits.false in
     rw c.refused-then-n-gt-MOST_BYTES.ensures
@@ -25,16 +22,11 @@ returns-then-n-gt-MOST_BYTES-clause-bytes c = let f = sym c.remark_fits.ensures 
 pub returns-then-n-out-clause-answer : goal.returns-then-n-out-clause-answer
 returns-then-n-out-clause-answer c = let f = sym c.remark_fits.ensures ∙ c.if-not-remark_fits.false in
     rw c.refused-then-n-out.ensures
-    (buffer_short _ _ _ _ _ c.tape_length-n.ensures f c.if-n-gt-MOST_BYTES.false c.if-n-out.true).0
+    (buffer_short _ _ _ _ _ c.tape_length-n.ensures f (omega arith) c.if-n-out.true).0
 
 pub returns-then-n-out-clause-bytes : goal.returns-then-n-out-clause-bytes
 returns-then-n-out-clause-bytes c = let f = sym c.remark_fits.ensures ∙ c.if-not-remark_fits.false in
-    (buffer_short _ _ _ _ _ c.tape_length-n.ensures f c.if-n-gt-MOST_BYTES.false c.if-n-out.true).1
-
-pub put_tape-requires : goal.put_tape-requires
-put_tape-requires c = let r = c.remark_fits in
-    let f = sym r.ensures ∙ c.if-not-remark_fits.false in
-    (c.requires, f, c.tape_length-n.ensures, omega arith)
+    (buffer_short _ _ _ _ _ c.tape_length-n.ensures f (omega arith) c.if-n-out.true).1
 
 pub returns-clause-answer : goal.returns-clause-answer
 returns-clause-answer c = let f = sym c.remark_fits.ensures ∙ c.if-not-remark_fits.false in

@@ -1,30 +1,17 @@
 use mathlib.Core.Path.{sym, ◌∙◌}
 use native.Mathlib.Nat.{add-sub_cancel_left}
-use native.Mathlib.Omega.{arith}
 use Rattle.tape_write.proofs.Passes.{blocks_zero, blocks_zeros}
 use Rattle.tape_write.proofs.zero_cells.Goals as goal
 
 pub returns-then-i-ne0-clause-blocks : goal.returns-then-i-ne0-clause-blocks
 returns-then-i-ne0-clause-blocks c = blocks_zero c.args.store.now c.args.i c.requires.0 c.requires.1
 
-pub returns-then-i-ne0-clause-bound : goal.returns-then-i-ne0-clause-bound
-returns-then-i-ne0-clause-bound c = (omega arith, omega (arith, c.requires))
-
 pub returns-then-store-i-lt-PART-clause-blocks : goal.returns-then-store-i-lt-PART-clause-blocks
 returns-then-store-i-lt-PART-clause-blocks c = blocks_zero c.args.store.now c.args.i c.requires.0 c.requires.1
-
-pub returns-then-store-i-lt-PART-clause-bound : goal.returns-then-store-i-lt-PART-clause-bound
-returns-then-store-i-lt-PART-clause-bound c = (omega arith, omega (arith, c.requires))
 
 pub returns-then-all_zero-clause-blocks : goal.returns-then-all_zero-clause-blocks
 returns-then-all_zero-clause-blocks c = let e = rw (add-sub_cancel_left c.args.i 256) at c.all_zero.ensures in
     blocks_zeros c.args.store.now c.args.i 256 (sym e ∙ c.if-all_zero.true)
 
-pub returns-then-all_zero-clause-bound : goal.returns-then-all_zero-clause-bound
-returns-then-all_zero-clause-bound c = (omega arith, omega (arith, c.requires))
-
 pub returns-else-all_zero-clause-blocks : goal.returns-else-all_zero-clause-blocks
 returns-else-all_zero-clause-blocks c = blocks_zero c.args.store.now c.args.i c.requires.0 c.requires.1
-
-pub returns-else-all_zero-clause-bound : goal.returns-else-all_zero-clause-bound
-returns-else-all_zero-clause-bound c = (omega arith, omega (arith, c.requires))

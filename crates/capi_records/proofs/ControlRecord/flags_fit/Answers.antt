@@ -3,7 +3,6 @@ use borrow.Author.Tests.{lt-ltb, le-ltb}
 use Rattle.std.proofs.Common.{rules}
 use Rattle.capi_records.proofs.ControlRecord.flags_fit.Goals as goal
 
--- Made by tools/prove.py; not to be edited.
 pub returns-then-self-lt2-2 : goal.returns-then-self-lt2-2
 unfolding flags_fit
 returns-then-self-lt2-2 c = rw (lt-ltb _ _ c.if-self-lt2.true, lt-ltb _ _ c.if-self-lt2-2.true)

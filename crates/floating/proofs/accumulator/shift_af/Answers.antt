@@ -1,7 +1,5 @@
 use native.Mathlib.Omega.{arith}
 use Rattle.registers.proofs.Loops.{iter_none, iter_next}
-use Rattle.registers.specs.Reg.{asr, iter}
-use Prim.Native.Nat.{◌-◌, ◌^◌, ◌≤◌, ◌<◌}
 use mathlib.Core.Path.{◌≡◌, refl}
 use Rattle.std.proofs.Common.{rules}
 use Rattle.floating.proofs.accumulator.shift_af.Goals as goal

@@ -1,5 +1,4 @@
 use Rattle.floating.specs.Add.{add_floating}
-use Rattle.std.proofs.Common.{rules}
 use Rattle.floating.proofs.addition.add_floating.Goals as goal
 
 pub returns : goal.returns

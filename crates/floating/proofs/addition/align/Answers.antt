@@ -1,6 +1,5 @@
 use Rattle.floating.specs.Add.{fa_align}
 use borrow.Author.Tests.{lt-ltb, le-ltb}
-use Rattle.std.proofs.Common.{rules}
 use Rattle.floating.proofs.addition.align.Goals as goal
 
 pub returns-then-b-gt4096 : goal.returns-then-b-gt4096

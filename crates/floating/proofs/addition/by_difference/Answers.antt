@@ -1,6 +1,5 @@
 use Rattle.floating.specs.Add.{fa_by_difference}
 use borrow.Author.Tests.{le-leb, lt-leb}
-use Rattle.std.proofs.Common.{rules}
 use Rattle.floating.proofs.addition.by_difference.Goals as goal
 
 pub returns-then-b-ge4134 : goal.returns-then-b-ge4134

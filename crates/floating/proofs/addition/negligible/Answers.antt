@@ -1,5 +1,4 @@
 use Rattle.floating.specs.Add.{fa_negligible}
-use Rattle.std.proofs.Common.{rules}
 use Rattle.floating.proofs.addition.negligible.Goals as goal
 
 pub returns-then-add : goal.returns-then-add

@@ -1,9 +1,6 @@
-use native.Mathlib.Omega.{arith}
-use Rattle.registers.proofs.Loops.{iter_none, iter_next}
 use Rattle.registers.specs.Reg.{asr, iter}
 use Prim.Native.Nat.{◌-◌, ◌^◌, ◌≤◌, ◌<◌}
-use mathlib.Core.Path.{◌≡◌, refl}
-use Rattle.std.proofs.Common.{rules}
+use mathlib.Core.Path.{◌≡◌}
 use Rattle.floating.proofs.addition.shift_sf.Given as goal
 
 abbrev pub invariant-loop-i : goal.invariant-loop-i

@@ -1,7 +1,6 @@
 use Rattle.registers.proofs.Tests.{tests}
 use Rattle.floating.specs.Convert.{cf_by_places, cf_shifts}
 use borrow.Author.Tests.{eq-eqb, lt-ltb, ne_eqb, le-ltb, lt-leb}
-use Rattle.std.proofs.Common.{rules}
 use Rattle.floating.proofs.conversion.by_places.Goals as goal
 
 pub returns-then-af-eq0 : goal.returns-then-af-eq0

@@ -1,5 +1,4 @@
 use Rattle.floating.specs.Convert.{cf}
-use Rattle.std.proofs.Common.{rules}
 use Rattle.floating.proofs.conversion.convert.Goals as goal
 
 pub returns : goal.returns

@@ -1,6 +1,5 @@
 use Rattle.floating.specs.Convert.{cf_end}
 use borrow.Author.Tests.{eq-eqb, ne_eqb}
-use Rattle.std.proofs.Common.{rules}
 use Rattle.floating.proofs.conversion.rounded.Goals as goal
 
 pub returns-then-t : goal.returns-then-t

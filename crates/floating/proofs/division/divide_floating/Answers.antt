@@ -1,9 +1,7 @@
 use Rattle.floating.specs.Divide.{divide_floating}
 use borrow.Author.Tests.{eq-eqb, ne_eqb}
-use Rattle.std.proofs.Common.{rules}
 use Rattle.floating.proofs.division.divide_floating.Goals as goal
 
--- Made by tools/prove.py; not to be edited.
 pub returns-then-o-eq0-2 : goal.returns-then-o-eq0-2
 unfolding divide_floating
 returns-then-o-eq0-2 c = rw (eq-eqb _ _ c.if-o-eq0.true, eq-eqb _ _ c.if-o-eq0-2.true)

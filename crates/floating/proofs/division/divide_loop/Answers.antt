@@ -1,12 +1,11 @@
 use native.Mathlib.Omega.{arith}
 use mathlib.Core.Bool.{not}
-use Rattle.floating.specs.Divide.{fd_step, fd_stop, fd_loop}
+use Rattle.floating.specs.Divide.{fd_step, fd_stop}
 use borrow.Author.Tests.{eq-eqb, ne_eqb}
 use Rattle.floating.proofs.Passes.{first_passes}
 use Rattle.registers.proofs.Loops.{until_stop, until_next, until_out}
 use Rattle.registers.specs.Reg.{until}
-use Prim.Native.Nat.{◌-◌, ◌^◌, ◌≤◌, ◌<◌}
-use mathlib.Core.Path.{◌≡◌, sym, ap, ◌∙◌}
+use mathlib.Core.Path.{sym, ap, ◌∙◌}
 use Rattle.std.proofs.Common.{rules}
 use Rattle.floating.proofs.division.divide_loop.Goals as goal
 

@@ -1,10 +1,7 @@
-use native.Mathlib.Omega.{arith}
 use Rattle.floating.specs.Divide.{fd_step}
-use Rattle.registers.proofs.Loops.{iter_none, iter_next}
 use Rattle.registers.specs.Reg.{iter}
 use Prim.Native.Nat.{◌-◌, ◌^◌, ◌≤◌, ◌<◌}
 use mathlib.Core.Path.{◌≡◌}
-use Rattle.std.proofs.Common.{rules}
 use Rattle.floating.proofs.division.first_passes.Given as goal
 
 abbrev pub invariant-loop-i : goal.invariant-loop-i

@@ -1,5 +1,4 @@
 use Rattle.floating.specs.Multiply.{multiply_floating}
-use Rattle.std.proofs.Common.{rules}
 use Rattle.floating.proofs.multiplication.multiply_floating.Goals as goal
 
 pub returns : goal.returns

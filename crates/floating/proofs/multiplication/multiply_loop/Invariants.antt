@@ -1,10 +1,7 @@
-use native.Mathlib.Omega.{arith}
-use Rattle.floating.specs.Multiply.{fm_step, fm_loop}
-use Rattle.registers.proofs.Loops.{iter_none, iter_next}
+use Rattle.floating.specs.Multiply.{fm_step}
 use Rattle.registers.specs.Reg.{iter}
 use Prim.Native.Nat.{◌-◌, ◌^◌, ◌≤◌, ◌<◌}
 use mathlib.Core.Path.{◌≡◌}
-use Rattle.std.proofs.Common.{rules}
 use Rattle.floating.proofs.multiplication.multiply_loop.Given as goal
 
 abbrev pub invariant-loop-i : goal.invariant-loop-i

@@ -1,4 +1,3 @@
-use Rattle.std.proofs.Common.{rules}
 use Rattle.machine.proofs.Record.fresh.Goals as goal
 
 pub returns : goal.returns
