@@ -9,13 +9,6 @@ use Rattle.tape_load.proofs.Loaded.{fits_at, inside_at, ahead_next, load_next, f
 use Rattle.std.proofs.Common.{rules}
 use Rattle.tape_load.proofs.load_blocks.Goals as goal
 
-inside : (c : tie.After-slice-known2 invariant-loop decreases-loop)
-    → let b8 = c.before.before.before.before.before.before.before.before in
-    (6 ≤ c.before.before.load-record.result) × (b8.loop.at + c.before.before.load-record.result ≤ length b8.before.before.before.args.tape.now)
-inside c =
-    let b8 = c.before.before.before.before.before.before.before.before in
-    inside_at _ b8.before.before.before.args.tape.now b8.loop.at b8.loop.invariant.2 _ c.before.before.load-record.ensures.0
-
 pub loop-store-init : goal.loop-store-init
 loop-store-init c = (omega arith, refl, ahead _ _ c.requires, refl, refl)
 
@@ -31,10 +24,10 @@ load_record-n-requires c = let l = c.loop-store in
     rw l.invariant.1 (fits_at _ t l.at l.invariant.2)
 
 pub overflow_add-at : goal.overflow_add-at
-overflow_add-at c = omega (arith, inside c)
+overflow_add-at c = omega (arith, inside_at _ c.args.tape.now c.loop-store.at c.loop-store.invariant.2 _ c.load_record-n.ensures.next)
 
 pub loop-store-smaller : goal.loop-store-smaller
-loop-store-smaller c = omega (arith, inside c)
+loop-store-smaller c = omega (arith, inside_at _ c.args.tape.now c.loop-store.at c.loop-store.invariant.2 _ c.load_record-n.ensures.next)
 
 pub loop-store-preserved : goal.loop-store-preserved
 loop-store-preserved c = let l = c.loop-store in
@@ -42,11 +35,11 @@ loop-store-preserved c = let l = c.loop-store in
     let r = c.load_record-n in
     let k = c.record_kind.ensures in
     let o = c.loop-store-test.true in
-    let e = r.ensures.0 in (
-      (inside c).1,
-      r.auto.0 ∙ l.invariant.1,
+    let e = r.ensures.next in (
+      (inside_at _ t l.at l.invariant.2 _ e).1,
+      r.auto.store ∙ l.invariant.1,
       ahead_next _ t l.at l.invariant.2 _ _ e k o,
-      load_next _ t l.at l.invariant.2 _ _ e k o _ _ r.ensures.1 ∙ l.invariant.3,
+      load_next _ t l.at l.invariant.2 _ _ e k o _ _ r.ensures.cells ∙ l.invariant.3,
       first_later _ t l.at l.invariant.2 _ _ e k o ∙ l.invariant.4,
     )
 

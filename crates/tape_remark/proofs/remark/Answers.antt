@@ -4,14 +4,21 @@ use Rattle.definition_tape.proofs.Remarks.{SpanPart, remark_part}
 use Rattle.std.proofs.Common.{rules}
 use Rattle.tape_remark.proofs.remark.Goals as goal
 
-part : (c : tie.After-remark-span) → SpanPart c.before.before.args.tape.now (remark_text c.before.before.args.tape.now c.before.before.args.cells) c.remark-span.result
-part c = rw c.remark-span.ensures (remark_part _ _)
-
 pub slice_bounds-result-count : goal.slice_bounds-result-count
-slice_bounds-result-count c = omega (arith, (part c).start)
+slice_bounds-result-count c = let part : SpanPart c.args.tape.now (remark_text c.args.tape.now c.args.cells) c.remark_span-s.result = rw c.remark_span-s.ensures (remark_part _ _) in
+    omega (arith, part.start)
+
+pub slice_bounds-result-start : goal.slice_bounds-result-start
+slice_bounds-result-start c = let part : SpanPart c.args.tape.now (remark_text c.args.tape.now c.args.cells) c.remark_span-s.result = rw c.remark_span-s.ensures (remark_part _ _) in
+    omega (arith, part.start)
+
+pub slice_bounds-result-end : goal.slice_bounds-result-end
+slice_bounds-result-end c = let part : SpanPart c.args.tape.now (remark_text c.args.tape.now c.args.cells) c.remark_span-s.result = rw c.remark_span-s.ensures (remark_part _ _) in
+    omega (arith, part.end)
 
 pub returns-clause-text : goal.returns-clause-text
-returns-clause-text c = (part c).text
+returns-clause-text c = let part : SpanPart c.args.tape.now (remark_text c.args.tape.now c.args.cells) c.remark_span-s.result = rw c.remark_span-s.ensures (remark_part _ _) in
+    part.text
 
 pub returns-clause-place : goal.returns-clause-place
 returns-clause-place c = rw c.remark_span-s.ensures

@@ -10,7 +10,7 @@ span_of-requires c = whole_first 4 (reading_judged _ _ (sym c.judge_reading-v.en
 
 pub returns-in-Accepted : goal.returns-in-Accepted
 unfolding remark_span
-returns-in-Accepted c = rw (← c.judge_reading-v.ensures, c.in-Accepted.is) c.Span-of.ensures
+returns-in-Accepted c = rw (← c.judge_reading-v.ensures, c.in-Accepted.is) c.span_of.ensures
 
 pub returns-in-Rejected : goal.returns-in-Rejected
 unfolding remark_span
