@@ -7,7 +7,7 @@ unfolding autoload_call
 returns-in-Accepted c = rw (
   ← c.judge_flags-v.ensures,
   c.in-Accepted.is,
-  ← c.«record».ensures,
+  ← c.record-c.ensures,
   ← c.press_autoload-x.ensures,
   ← c.autoload_result.ensures,
 )

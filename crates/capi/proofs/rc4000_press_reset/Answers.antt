@@ -7,7 +7,7 @@ unfolding reset_call
 returns-in-Accepted c = rw (
   ← c.judge_flags-v.ensures,
   c.in-Accepted.is,
-  ← c.«record».ensures,
+  ← c.record-c.ensures,
   ← c.press_reset-x.ensures,
   ← c.state_result.ensures,
 )

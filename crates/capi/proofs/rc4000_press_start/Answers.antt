@@ -7,7 +7,7 @@ unfolding start_call
 returns-in-Accepted c = rw (
   ← c.judge_flags-v.ensures,
   c.in-Accepted.is,
-  ← c.«record».ensures,
+  ← c.record-c.ensures,
   ← c.press_start-x.ensures,
   ← c.state_result.ensures,
 )

@@ -7,7 +7,7 @@ unfolding run_call
 returns-in-Accepted c = rw (
   ← c.judge_flags-v.ensures,
   c.in-Accepted.is,
-  ← c.«record».ensures,
+  ← c.record-c.ensures,
   ← c.run-x.ensures.exact,
   ← c.run_result.ensures,
 )

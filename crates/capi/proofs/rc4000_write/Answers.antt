@@ -8,7 +8,7 @@ returns-in-Accepted c = let e = c.write-x.ensures in
     rw (
       ← c.judge_flags-v.ensures,
       c.in-Accepted.is,
-      ← c.«record».ensures,
+      ← c.record-c.ensures,
       ← e.answer,
       ← e.bytes,
       ← c.write_result.ensures,
