@@ -80,17 +80,17 @@ LoadIsOverlay =
     ((loading t s c).state ≡ over.state) × ((loading t s c).state.verdict ≡ Accepted → (loading t s c).cells ≡ over.cells)
 
 -- x is a store of n cells with the blocks of a border tape over those of a ground tape, and the border tape's control record
-pub record OverlaidFrom {n : ℕ} {t u : List ℕ} (ground : Records n t) (border : Records n u) (x : Loaded) : Type 0 where
+pub record OverlaidFrom {n : ℕ} {t u : List ℕ} (ground_records : Records n t) (border : Records n u) (x : Loaded) : Type 0 where
   pub accepted : x.state.verdict ≡ Accepted
   pub size : length x.cells ≡ n
-  pub cells : (i : ℕ) → HoldsOver i (blocks_of ground) (blocks_of border) (get_or x.cells i 0)
+  pub cells : (i : ℕ) → HoldsOver i (blocks_of ground_records) (blocks_of border) (get_or x.cells i 0)
   pub control : RecordFields (control_payload border) x.state.control
 
 -- the load of a ground tape, then the overlay of a border tape: what the second's blocks over the first's say
 abbrev pub BorderOverGround : Type 0
 BorderOverGround =
-    (t u s : List ℕ) (c d : Record) → judge_store s ≡ Accepted → (ground : TapeFor (length s) t) (border : TapeFor (length s) u)
-    → OverlaidFrom ground.layout border.layout (overlaying u (loading t s c).cells d)
+    (t u s : List ℕ) (c d : Record) → judge_store s ≡ Accepted → (ground_tape : TapeFor (length s) t) (border : TapeFor (length s) u)
+    → OverlaidFrom ground_tape.layout border.layout (overlaying u (loading t s c).cells d)
 
 -- the order of the blocks does not matter: two accepted tapes with the same blocks leave the same cells
 abbrev pub AnyOrder : Type 0

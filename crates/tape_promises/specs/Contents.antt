@@ -28,9 +28,9 @@ pub data Holds (i held : ℕ) (bs : List Block) : ℕ → Type 0 where
   kept : (Named i bs → ⊥) → Holds i held bs held
 
 -- the cell i holds x after the blocks of a border tape over those of a ground tape over zero (document 02, E5)
-pub record HoldsOver (i : ℕ) (ground border : List Block) (x : ℕ) : Type 0 where
+pub record HoldsOver (i : ℕ) (ground_blocks border : List Block) (x : ℕ) : Type 0 where
   pub below : ℕ
-  pub by_ground : Holds i 0 ground below
+  pub by_ground : Holds i 0 ground_blocks below
   pub by_border : Holds i below border x
 
 -- the same blocks, in whatever order
