@@ -8,9 +8,9 @@ use lib.Seq.{drop-cons}
 use lib.Dec.{ltb}
 use borrow.Author.Tests.{lt-ltb, le-ltb}
 use Rattle.acceptance.specs.Accept.{characters_fit}
-use Rattle.std.proofs.Common.{rules}
+use Rattle.std.proofs.Common.{rules, arith}
 use Rattle.acceptance.proofs.characters_fit.Goals as goal
-use Rattle.acceptance.proofs.characters_fit.Goals.{then-s-i-ge64, else-s-i-ge64}
+use Rattle.std.proofs.lemmas.Grind.{common_steps}
 
 step : (s : List ℕ) (i : ℕ) → i < length s
     → characters_fit (drop i s) ≡ cond (ltb (get_or s i 0) 64) (characters_fit (drop (i + 1) s)) false
@@ -30,13 +30,9 @@ loop-i-init c = (search rules, refl)
 
 pub loop-i-preserved : goal.loop-i-preserved
 loop-i-preserved c = let was = c.loop-i in
-    let within = c.loop-i-test.true in (
-      search rules,
-      elim c.if-s-i-ge64.branch [
-        | then-s-i-ge64 w ↦ rw (w.fit-is, ← was.invariant.1, step _ _ within, le-ltb _ _ w.if-s-i-ge64.true) (never-fits was.fit)
-        | else-s-i-ge64 w ↦ rw (w.fit-is, ← was.invariant.1, step _ _ within, lt-ltb _ _ w.if-s-i-ge64.false)
-      ],
-    )
+    let within = c.loop-i-test.true in
+    let next = step _ _ within in
+    (search rules, grind (arith, common_steps, next, was.invariant.1, lt-ltb, le-ltb, never-fits))
 
 pub returns : goal.returns
 unfolding characters_fit
