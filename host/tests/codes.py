@@ -18,9 +18,9 @@ def numbered(pairs):
 
 
 def in_definition(text):
-    """`code 2 BL` or `device_code 0 AW`, in the list `codes`; AC is written `Ac` there."""
+    """`code 2 BL` or `device_code 0 AW`, in the list `codes`."""
     body = re.search(r"^codes =\n((?: .*\n)+)", text, re.M)[1]
-    return numbered((int(code), name.upper()) for code, name in re.findall(r"\b(?:code|device_code) (\d+) (\w+)", body))
+    return numbered((int(code), name) for code, name in re.findall(r"\b(?:code|device_code) (\d+) (\w+)", body))
 
 
 def in_dispatch(text):

@@ -134,7 +134,7 @@ DividePasses =
     → (35 ≤ (fd_loop (signed_sf (storage_fraction (fraction first second))) (register_fraction (fraction pre word))).passes)
     × ((fd_loop (signed_sf (storage_fraction (fraction first second))) (register_fraction (fraction pre word))).passes ≤ 71)
 
--- 0.5 by 0.5: 35 passes (71: floating/specs/Divide.antt, fd-longest)
+-- 0.5 by 0.5: 35 passes (71: floating/specs/Divide.antt, fd_longest)
 fd_shortest : (fd_loop (2 ^ 36) (2 ^ 36)).passes ≡ 35
 unfolding fd_loop fd_start fd_add until
 fd_shortest = refl

@@ -45,7 +45,7 @@ due_number l b s r d cs =
     (cond (ltb b 65536)
     (cond (fits_lent d cs) 0 13) 5) 4) 18) 3) 3) 2) 1
 
--- `run-numbers`: a run is refused exactly under these conditions, for all bytes
+-- `run_numbers`: a run is refused exactly under these conditions, for all bytes
 abbrev pub RunNumbers : Type 0
 RunNumbers =
     (l b : ℕ) (s : List ℕ) (r : ControlRecord) (d : Devices) (cs t : List ℕ) → number_of (run_call l b s r d cs t).result ≡ due_number l b s r d cs
@@ -60,7 +60,7 @@ due_of_autoload_call s r d cs =
     (cond (timer_fits (timer_in r))
     (cond (fits_lent d cs) 0 13) 18) 3) 3) 2) 1
 
--- `autoload-call-numbers`: the autoload key is refused exactly under these conditions
+-- `autoload_call_numbers`: the autoload key is refused exactly under these conditions
 abbrev pub AutoloadCallNumbers : Type 0
 AutoloadCallNumbers = (s : List ℕ) (r : ControlRecord) (d : Devices) (cs : List ℕ) → (autoload_call s r d cs).result.refusal ≡ due_of_autoload_call s r d cs
 
@@ -77,11 +77,11 @@ due_of_write s r g m o =
     (cond (leb (tape_size s given) 65536)
     (cond (leb (tape_size s given) (length o)) 0 16) 15) 14) 18) 3) 3) 2) 1
 
--- `write-numbers`: the writing of a tape is refused exactly under these conditions
+-- `write_numbers`: the writing of a tape is refused exactly under these conditions
 abbrev pub WriteNumbers : Type 0
 WriteNumbers = (s : List ℕ) (r : ControlRecord) (g : ℕ) (m o : List ℕ) → (write_call s r g m o).result.refusal ≡ due_of_write s r g m o
 
--- `write-accepted`: a call that is not refused hands back the length and the buffer of `writing`
+-- `write_accepted`: a call that is not refused hands back the length and the buffer of `writing`
 abbrev pub WriteAccepted : Type 0
 WriteAccepted =
     (s : List ℕ) (r : ControlRecord) (g : ℕ) (m o : List ℕ) → (write_call s r g m o).result.refusal ≡ 0
@@ -99,7 +99,7 @@ pub record HandsBack (s : List ℕ) (v : Verdict) (c : Record) (y : Returned Sta
 abbrev pub HandsBackLoaded : Loaded → Returned StateResult → Type 0
 HandsBackLoaded x y = HandsBack x.cells x.state.verdict x.state.control y
 
--- `load-calls`: load and overlay hand back what `loading` and `overlaying` do, with any flag bytes
+-- `load_calls`: load and overlay hand back what `loading` and `overlaying` do, with any flag bytes
 abbrev pub LoadCalls : Type 0
 LoadCalls =
     (t s : List ℕ) (r : ControlRecord)
@@ -108,13 +108,13 @@ LoadCalls =
 abbrev pub HandsBackPressed : Pressed TimedComputer → Returned StateResult → Type 0
 HandsBackPressed x y = HandsBack x.machine.cells x.verdict x.machine.control y
 
--- `key-calls`: the reset key and the start key hand back what `pressing_reset` and `pressing_start` do
+-- `key_calls`: the reset key and the start key hand back what `pressing_reset` and `pressing_start` do
 abbrev pub KeyCalls : Type 0
 KeyCalls =
     (s : List ℕ) (r : ControlRecord) → flags_fit r ≡ true
     → HandsBackPressed (pressing_reset s (record_in r)) (reset_call s r) × HandsBackPressed (pressing_start s (record_in r)) (start_call s r)
 
--- `autoload-calls`: the autoload key hands back what `autoload_lent` does
+-- `autoload_calls`: the autoload key hands back what `autoload_lent` does
 abbrev pub AutoloadCalls : Type 0
 AutoloadCalls =
     (s : List ℕ) (r : ControlRecord) (d : Devices) (cs : List ℕ) → flags_fit r ≡ true
@@ -137,7 +137,7 @@ ended_run o x =
       typed = x.typed;
     }
 
--- `run-calls`: a run hands back what `run_lent` does
+-- `run_calls`: a run hands back what `run_lent` does
 abbrev pub RunCalls : Type 0
 RunCalls =
     (l b : ℕ) (s : List ℕ) (r : ControlRecord) (d : Devices) (cs t : List ℕ) → flags_fit r ≡ true
@@ -167,7 +167,7 @@ AutoloadAsGiven s r d x = (x.result.refusal ≡ 0 → ⊥) → (x.result.control
 abbrev pub WriteAsGiven : List ℕ → WriteReturned → Type 0
 WriteAsGiven o x = (x.result.refusal ≡ 0 → ⊥) → (x.result.length ≡ 0) × (x.bytes ≡ o)
 
--- `refused-as-given`: a refusal changes nothing, for all bytes
+-- `refused_as_given`: a refusal changes nothing, for all bytes
 abbrev pub RefusedAsGiven : Type 0
 RefusedAsGiven =
     (l b g : ℕ) (tape s : List ℕ) (r : ControlRecord) (d : Devices) (cs t m o : List ℕ)
@@ -179,7 +179,7 @@ RefusedAsGiven =
     × StateAsGiven s r (overlay_call tape s r)
     × WriteAsGiven o (write_call s r g m o)
 
--- `assemble-calls`: refusal 0 and the word, or the refusal's number and the word 0
+-- `assemble_calls`: refusal 0 and the word, or the refusal's number and the word 0
 abbrev pub AssembleCalls : Type 0
 AssembleCalls =
     (t : List ℕ)

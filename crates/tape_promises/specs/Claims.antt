@@ -1,4 +1,4 @@
--- What is proved of tapes besides the contracts. Each has its proof under its name, as `accepted-tapes`.
+-- What is proved of tapes besides the contracts. Each has its proof under its name, as `accepted_tapes`.
 -- Assumes nothing.
 use Rattle.std.specs.Prelude.{ℕ, ◌-◌, ◌≤◌, ◌<◌, ◌≡◌, true, false, List, [], length, take, drop, get_or, replicate}
 use Rattle.machine.specs.Answers.{refusal_number}

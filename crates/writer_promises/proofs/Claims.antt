@@ -1,4 +1,4 @@
--- The claims of specs/Claims.antt. `rising-blocks` stands in Stretches, `fewest-blocks` in Fewest, `tape-records` in Records; the others here.
+-- The claims of specs/Claims.antt. `rising_blocks` stands in Stretches, `fewest_blocks` in Fewest, `tape_records` in Records; the others here.
 -- Assumes nothing.
 use Prim.Native.Nat.{ℕ, zero, suc, ◌+◌, ◌*◌}
 use mathlib.Core.Path.{◌≡◌, refl, sym, ap, ◌∙◌}
