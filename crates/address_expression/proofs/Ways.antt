@@ -1,6 +1,7 @@
 -- The ways out of the three readers, of `close` and of `judge`, in the terms of the code. Assumes nothing.
 use Prim.Native.Nat.{ℕ, zero, suc, ◌+◌, ◌-◌, ◌≤◌, ◌<◌}
 use mathlib.Core.Path.{◌≡◌, refl, sym, ap, ◌∙◌}
+use mathlib.Core.Logic.{◌⊎◌, inl, inr}
 use mathlib.Core.Bool.{Bool, true, false, not}
 use mathlib.Core.List.{List}
 use native.Mathlib.Omega.{arith}
@@ -77,6 +78,12 @@ module _ (t : List ℕ) where
     sum_minus m w k h q g d u =
         let y = moved_to (product_at i Nothing) p x n k h in
         (omega arith, ap (λ v. R (sum_at (n + 1) (left_of v))) u ∙ sym (sum_reached k h q ∙ minus_on values t s n (sym g ∙ d)) ∙ w.1)
+
+    -- a sum goes on at a + or a -
+    pub sum_goes : (m : LeftOperand) → Summing at i l → p ≡ reading_of (R (product_at i Nothing)) → p ≡ Read x n → s ≡ combined values (left_of l) x → b ≡ get_or t n 0
+        → ((b ≡ 43) × (m ≡ BeforePlus s)) ⊎ ((b ≡ 45) × (m ≡ BeforeMinus s)) → Summing at (n + 1) m
+    sum_goes m w k h q g (inl e) = sum_plus m w k h q g e.0 e.1
+    sum_goes m w k h q g (inr e) = sum_minus m w k h q g e.0 e.1
 
     pub sum_ends : Summing at i l → p ≡ reading_of (R (product_at i Nothing)) → p ≡ Read x n → s ≡ combined values (left_of l) x → b ≡ get_or t n 0 → (b ≡ 43 → ⊥) → (b ≡ 45 → ⊥)
         → Read s n ≡ reading_of (R (sum_at at Nothing))

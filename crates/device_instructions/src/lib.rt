@@ -31,6 +31,7 @@ fn rejection(rejected: bool) -> u32
 }
 
 // Input/Output. Each way through it adds its own time; one that ends in a fault adds none.
+#[tactic(auto, unfolding(timer_row::specs::Row::passing, timer_row::specs::Row::with_passed, definition_times::specs::Times::device_time, definition_times::specs::Times::io_time, definition_instructions::specs::Codes::execute_device, definition_instructions::specs::MicroOps::execute_device_operation, definition_instructions::specs::Meaning::device_meaning, definition_instructions::specs::Meaning::commanded, definition_instructions::specs::MicroOps::device_steps, definition_instructions::specs::MicroOps::device_step, definition_instructions::specs::MicroOps::monitor_step, definition_instructions::specs::MicroOps::micro_step))]
 pub fn io(
     s: &mut [u32],
     k: &mut Row,

@@ -1,9 +1,8 @@
 -- The proof of the cycle of calls {primary, product, sum}: each way out and each turn by its law of Ways.
 use Rattle.std.proofs.Common.{◌+◌, arith}
 use Rattle.definition_assembler.specs.Reader.{Nothing, sum_at, product_at, primary_at}
-use Rattle.address_expression.proofs.Ways.{moved_to, placed, sum_plus, sum_minus, sum_ends, sum_wrong, product_times, product_ends, product_wrong, primary_group, primary_number}
+use Rattle.address_expression.proofs.Ways.{moved_to, placed, sum_goes, sum_ends, sum_wrong, product_times, product_ends, product_wrong, primary_group, primary_number}
 use Rattle.address_expression.proofs.+primary_product_sum.Goals as goal
-use Rattle.address_expression.proofs.+primary_product_sum.Goals.{sum-then-b-eq43, sum-else-b-eq43+then-b-eq45}
 
 pub primary-close-requires : goal.primary-close-requires
 primary-close-requires t c = placed c.args.text.now (sum_at (c.args.at + 1) Nothing) _ c.sum.ensures
@@ -37,12 +36,7 @@ sum-loop-x-smaller t c = let m = moved_to c.args.text.now (product_at c.loop-x.i
 
 pub sum-loop-x-preserved : goal.sum-loop-x-preserved
 sum-loop-x-preserved t c =
-    elim c.if-b-eq43.branch [
-      | sum-then-b-eq43 w ↦
-          sum_plus c.args.text.now c.args.at c.loop-x.i _ _ c.loop-x.l _ _ _ _ c.loop-x.invariant c.product-p.ensures c.in-Read.is c.combine-s.ensures c.byte_at-b.ensures w.if-b-eq43.true w.l-is
-      | sum-else-b-eq43+then-b-eq45 w ↦
-          sum_minus c.args.text.now c.args.at c.loop-x.i _ _ c.loop-x.l _ _ _ _ c.loop-x.invariant c.product-p.ensures c.in-Read.is c.combine-s.ensures c.byte_at-b.ensures w.if-b-eq45.true w.l-is
-    ]
+    sum_goes c.args.text.now c.args.at c.loop-x.i _ _ c.loop-x.l _ _ _ _ c.loop-x.invariant c.product-p.ensures c.in-Read.is c.combine-s.ensures c.byte_at-b.ensures (grind arith)
 
 pub sum-returns-in-Failed : goal.sum-returns-in-Failed
 sum-returns-in-Failed t c = sum_wrong c.args.text.now c.args.at c.loop-x.i c.loop-x.l _ c.loop-x.invariant c.product-p.ensures c.in-Failed.is

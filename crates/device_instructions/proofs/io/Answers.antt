@@ -49,23 +49,6 @@ pub returns-then-sb-eq0-clause-time : goal.returns-then-sb-eq0-clause-time
 unfolding passing with_passed device_time io_time execute_device execute_device_operation device_meaning device_steps device_step monitor_step micro_step commanded
 returns-then-sb-eq0-clause-time c = rw (← c.is_disconnected-rejected.ensures, c.if-rejected.false, eq-eqb _ _ c.if-sb-eq0.true) c.advance-then-sb-eq0.ensures.value
 
-pub returns-then-sb-eq1-clause-value : goal.returns-then-sb-eq1-clause-value
-unfolding passing with_passed device_time io_time execute_device execute_device_operation device_meaning device_steps device_step monitor_step micro_step commanded
-returns-then-sb-eq1-clause-value c = rw (
-  ← c.is_task.ensures,
-  c.if-is_task.false,
-  ← c.is_disconnected-rejected.ensures,
-  ← c.rejection-r.ensures.value,
-  ← (rw c.ex-x.ensures at c.set_ex.ensures.value),
-  c.if-rejected.false,
-  ne_eqb _ _ c.if-sb-eq0.false,
-  eq-eqb _ _ c.if-sb-eq1.true,
-)
-
-pub returns-then-sb-eq1-clause-time : goal.returns-then-sb-eq1-clause-time
-unfolding passing with_passed device_time io_time execute_device execute_device_operation device_meaning device_steps device_step monitor_step micro_step commanded
-returns-then-sb-eq1-clause-time c = rw (← c.is_disconnected-rejected.ensures, c.if-rejected.false, ne_eqb _ _ c.if-sb-eq0.false, eq-eqb _ _ c.if-sb-eq1.true) c.advance-then-sb-eq1.ensures.value
-
 pub returns-then-sb-eq2-clause-value : goal.returns-then-sb-eq2-clause-value
 unfolding passing with_passed device_time io_time execute_device execute_device_operation device_meaning device_steps device_step monitor_step micro_step commanded
 returns-then-sb-eq2-clause-value c = rw (
