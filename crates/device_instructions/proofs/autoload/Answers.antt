@@ -1,7 +1,6 @@
 use Rattle.channel_row.specs.Row.{channel_at}
 use Rattle.device_instructions.proofs.AutoloadLaws.{loaded, loaded_nowhere}
 use mathlib.Core.Path.{sym, ◌∙◌}
-use Rattle.std.proofs.Common.{rules}
 use Rattle.device_instructions.proofs.autoload.Goals as goal
 
 pub returns-then-is_absent-clause-value : goal.returns-then-is_absent-clause-value

@@ -1,5 +1,4 @@
 use Rattle.definition_instructions.specs.Channel.{device_buffer}
-use Rattle.std.proofs.Common.{rules}
 use Rattle.device_instructions.proofs.input.Goals as goal
 
 pub returns-clause-register : goal.returns-clause-register

@@ -1,11 +1,10 @@
 use mathlib.Core.Path.{refl}
 use Rattle.definition_times.specs.Times.{io_time, device_time}
 use Rattle.timer_row.specs.Row.{passing, with_passed}
-use borrow.Author.Tests.{eq-eqb, ne_eqb}
+use borrow.Author.Tests.{eq-eqb}
 use Rattle.definition_instructions.specs.Codes.{execute_device}
 use Rattle.definition_instructions.specs.Meaning.{commanded, device_meaning}
 use Rattle.definition_instructions.specs.MicroOps.{device_step, device_steps, execute_device_operation, micro_step, monitor_step}
-use Rattle.std.proofs.Common.{rules}
 use Rattle.device_instructions.proofs.io.Goals as goal
 
 pub returns-then-is_task-clause-value : goal.returns-then-is_task-clause-value
@@ -48,42 +47,3 @@ returns-then-sb-eq0-clause-value c = rw (
 pub returns-then-sb-eq0-clause-time : goal.returns-then-sb-eq0-clause-time
 unfolding passing with_passed device_time io_time execute_device execute_device_operation device_meaning device_steps device_step monitor_step micro_step commanded
 returns-then-sb-eq0-clause-time c = rw (← c.is_disconnected-rejected.ensures, c.if-rejected.false, eq-eqb _ _ c.if-sb-eq0.true) c.advance-then-sb-eq0.ensures.value
-
-pub returns-then-sb-eq2-clause-value : goal.returns-then-sb-eq2-clause-value
-unfolding passing with_passed device_time io_time execute_device execute_device_operation device_meaning device_steps device_step monitor_step micro_step commanded
-returns-then-sb-eq2-clause-value c = rw (
-  ← c.is_task.ensures,
-  c.if-is_task.false,
-  ← c.is_disconnected-rejected.ensures,
-  ← c.rejection-r.ensures.value,
-  ← (rw c.ex-x.ensures at c.set_ex.ensures.value),
-  c.if-rejected.false,
-  ne_eqb _ _ c.if-sb-eq0.false,
-  ne_eqb _ _ c.if-sb-eq1.false,
-  eq-eqb _ _ c.if-sb-eq2.true,
-  ← c.read.ensures.value,
-)
-
-pub returns-then-sb-eq2-clause-time : goal.returns-then-sb-eq2-clause-time
-unfolding passing with_passed device_time io_time execute_device execute_device_operation device_meaning device_steps device_step monitor_step micro_step commanded
-returns-then-sb-eq2-clause-time c = rw (← c.is_disconnected-rejected.ensures, c.if-rejected.false, ne_eqb _ _ c.if-sb-eq0.false, ne_eqb _ _ c.if-sb-eq1.false, eq-eqb _ _ c.if-sb-eq2.true) c.advance-then-sb-eq2.ensures.value
-
-pub returns-clause-value : goal.returns-clause-value
-unfolding passing with_passed device_time io_time execute_device execute_device_operation device_meaning device_steps device_step monitor_step micro_step commanded
-returns-clause-value c = rw (
-  ← c.is_task.ensures,
-  c.if-is_task.false,
-  ← c.is_disconnected-rejected.ensures,
-  ← c.rejection-r.ensures.value,
-  ← (rw c.ex-x.ensures at c.set_ex.ensures.value),
-  c.if-rejected.false,
-  ne_eqb _ _ c.if-sb-eq0.false,
-  ne_eqb _ _ c.if-sb-eq1.false,
-  ne_eqb _ _ c.if-sb-eq2.false,
-  ← c.word_at-v.ensures.value,
-  ← c.write.ensures.value,
-)
-
-pub returns-clause-time : goal.returns-clause-time
-unfolding passing with_passed device_time io_time execute_device execute_device_operation device_meaning device_steps device_step monitor_step micro_step commanded
-returns-clause-time c = rw (← c.is_disconnected-rejected.ensures, c.if-rejected.false, ne_eqb _ _ c.if-sb-eq0.false, ne_eqb _ _ c.if-sb-eq1.false, ne_eqb _ _ c.if-sb-eq2.false) c.advance-2.ensures.value

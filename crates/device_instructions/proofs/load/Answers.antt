@@ -1,5 +1,4 @@
 use Rattle.machine.specs.Store.{put_key}
-use Rattle.std.proofs.Common.{rules}
 use Rattle.device_instructions.proofs.load.Goals as goal
 
 pub returns : goal.returns

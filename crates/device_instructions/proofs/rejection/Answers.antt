@@ -1,5 +1,4 @@
 use Rattle.definition_instructions.specs.Meaning.{rejection}
-use Rattle.std.proofs.Common.{rules}
 use Rattle.device_instructions.proofs.rejection.Goals as goal
 
 pub returns-then-rejected-clause-value : goal.returns-then-rejected-clause-value
