@@ -25,7 +25,8 @@ FILES = "Promises", "Several", "Claims", "Grammar", "Contents", "Numbers", "Prot
 LEAST = 109     # statements: a request adds to them
 PLACE = rf"crates/(\w+)/(specs/(?:{'|'.join(FILES)})\.antt)"
 # closed types that claim nothing
-ELSEWHERE = {"crates/definition_instructions/specs/MicroOps.antt: Value"}
+ELSEWHERE = {"crates/definition_instructions/specs/MicroOps.antt: Value", "crates/definition_assembler/specs/Answers.antt: Address", "crates/definition_assembler/specs/Answers.antt: Assembled",
+             "crates/machine/specs/Verdicts.antt: Verdict", "crates/machine/specs/Verdicts.antt: Answer"}
 # definitions with no edit of their own: machine_of's type allows no other function; Remark, Content, Lent and Call are types of data and claim nothing
 UNEDITED = {"machine_of", "Remark", "Content", "Lent", "Call"}
 PAGE = "docs/PROMISES.md"

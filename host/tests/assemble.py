@@ -2,7 +2,6 @@
 stand-ins for the programs, which keep the listing that they are given. Programs: the proved ones, on listings, and their tapes under loadrun."""
 import os
 import pathlib
-import re
 import shutil
 import subprocess
 import sys
@@ -14,6 +13,7 @@ ROOT = pathlib.Path(__file__).resolve().parents[2]
 sys.dont_write_bytecode = True
 sys.path.insert(0, str(ROOT / "tools"))
 import tape  # noqa: E402
+from uses import crates, untimed  # noqa: E402
 
 # What it says is on standard error. It proves the crates that CRATES has and that no call before has proved.
 RT = """#!/bin/sh
@@ -35,26 +35,6 @@ PROGRAM = """#!/bin/sh
 cat >"$PLACE/listing of $(basename "$0")"
 cat "$PLACE/result of $(basename "$0")"
 """
-
-
-def crates(*programs):
-    """The crates that rt proves for the programs, each behind those that it uses."""
-    lines = [line.split("#")[0].split(":") for line in (ROOT / "crates.txt").read_text().splitlines() if ":" in line.split("#")[0]]
-    uses, found = {name.split()[0]: rest.split() for name, rest in lines}, []
-
-    def visit(name):
-        if name in uses and name not in found:
-            for used in uses[name]:
-                visit(used)
-            found.append(name)
-
-    for program in programs:
-        visit(program)
-    return found
-
-
-def untimed(text):
-    return re.sub(r"\(\d+ s\)", "(.. s)", text)
 
 
 class Both(unittest.TestCase):

@@ -2,14 +2,15 @@
 the program, which keeps the tape that it is given."""
 import os
 import pathlib
-import re
 import shutil
 import subprocess
+import sys
 import tempfile
 import time
 import unittest
 
-ROOT = pathlib.Path(__file__).resolve().parents[2]
+sys.dont_write_bytecode = True
+from uses import ROOT, crates, untimed  # noqa: E402
 
 # It waits for the file go behind its first crate, five seconds at most. What it says is on standard error, what its program writes on standard output.
 RT = """#!/bin/sh
@@ -33,25 +34,6 @@ cat "$PLACE/result"
 """
 
 
-def crates():
-    """The crates that rt proves for loadrun, each behind those that it uses."""
-    lines = [line.split("#")[0].split(":") for line in (ROOT / "crates.txt").read_text().splitlines() if ":" in line.split("#")[0]]
-    uses, found = {name.split()[0]: rest.split() for name, rest in lines}, []
-
-    def visit(name):
-        if name in uses and name not in found:
-            for used in uses[name]:
-                visit(used)
-            found.append(name)
-
-    visit("loadrun")
-    return found
-
-
-def untimed(text):
-    return re.sub(r"\(\d+ s\)", "(.. s)", text)
-
-
 class Loadrun(unittest.TestCase):
     def setUp(self):
         room = tempfile.TemporaryDirectory()
@@ -71,7 +53,7 @@ class Loadrun(unittest.TestCase):
         os.utime(self.room / "program", (0, 0))  # a build that leaves it older than its sources
         (self.room / "go").touch()
         self.tape.write_bytes(b"tape")
-        self.settings = {"PATH": f"{self.room}:{os.environ['PATH']}", "PLACE": str(self.room), "CRATES": " ".join(crates())}
+        self.settings = {"PATH": f"{self.room}:{os.environ['PATH']}", "PLACE": str(self.room), "CRATES": " ".join(crates("loadrun"))}
 
     def build(self):
         """As though it were proved before."""
@@ -99,7 +81,7 @@ class Loadrun(unittest.TestCase):
             self.assertEqual(done.stderr, "")
 
     def test_every_crate_is_told_with_what_is_left(self):
-        names = crates()
+        names = crates("loadrun")
         for proved in names, names[7::9], ["loadrun"]:
             self.settings["CRATES"] = " ".join(proved)
             done = self.run_script(self.tape)

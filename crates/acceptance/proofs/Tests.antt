@@ -8,8 +8,7 @@ use lib.Dec.{ltb}
 use borrow.Author.Tests.{ne_eqb, ltb-true}
 use Rattle.machine.specs.declared.Refusal.{Refusal}
 use Rattle.machine.specs.declared.Refusal.TheVariants.{TimerField, Device}
-use Rattle.machine.specs.declared.Verdict.{Verdict}
-use Rattle.machine.specs.declared.Verdict.TheVariants.{Accepted, Rejected}
+use Rattle.machine.specs.Verdicts.{Verdict, Accepted, Rejected}
 use Rattle.acceptance.specs.Accept.{timer_fits, judge_timer, judge_devices}
 
 pub both : (a b : Bool) → cond a b false ≡ true → (a ≡ true) × (b ≡ true)

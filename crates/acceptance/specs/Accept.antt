@@ -6,8 +6,7 @@ use Rattle.machine.specs.declared.Control.{Control}
 use Rattle.machine.specs.declared.Timer.{Timer}
 use Rattle.machine.specs.declared.Record.{Record}
 use Rattle.machine.specs.declared.Refusal.TheVariants.{StoreSize, CellValue, ControlField, TimerField, Lines, Budget, Device}
-use Rattle.machine.specs.declared.Verdict.{Verdict}
-use Rattle.machine.specs.declared.Verdict.TheVariants.{Accepted, Rejected}
+use Rattle.machine.specs.Verdicts.{Verdict, Accepted, Rejected}
 
 -- the cells of the largest store
 abbrev pub most_cells : ℕ

@@ -1,5 +1,5 @@
 -- The laws that the proofs of the functions cite.
-pub mod Integers
-pub mod Counting
-pub mod Ways
+pub mod Ranges
+pub mod Digits
+pub mod Front
 pub mod Kept

@@ -1,41 +1,28 @@
--- What the code keeps of an address while it is read: the value by sign and magnitude, whether every value was in range, the depth. A value out
--- of range is not kept, and a depth over 17 is kept as 17, so one pass through the text gives all the verdicts. Assumes nothing.
-use Rattle.std.specs.Prelude.{ℕ, suc, ◌+◌, ◌*◌, ◌-◌, ◌≤◌, max, Bool, true, false, cond, ◌&&◌, List, ◌∷◌, ltb, length, ℤ, pos, negsuc, neg_ℤ, ◌+ℤ◌, ◌-ℤ◌, ◌*ℤ◌}
+-- What the code keeps of an address while it is read: the value, if every value within it is in range, and the depth. A value out of range is not
+-- kept, and a depth over 17 is kept as 17, so one pass through the text gives all the verdicts. Assumes nothing.
+use Rattle.std.specs.Prelude.{ℕ, suc, ◌+◌, ◌*◌, ◌-◌, max, cond, List, [], ◌∷◌, ltb, eqb, drop, ℤ, pos, ◌+ℤ◌, ◌-ℤ◌, ◌*ℤ◌, Option, Some, None, is_some}
+use Rattle.std.specs.Borrow.{Bor}
+use Rattle.std.specs.Option.{unwrap_or}
 use Rattle.address_expression.specs.declared.Value.{Value}
-use Rattle.address_expression.specs.declared.LeftOperand.{LeftOperand}
-use Rattle.address_expression.specs.declared.LeftOperand.TheVariants.{NoOperand, BeforePlus, BeforeMinus, BeforeTimes}
-use Rattle.address_expression.specs.declared.Reading.{Reading}
-use Rattle.address_expression.specs.declared.Reading.TheVariants.{Failed, Read}
-use Rattle.address_expression.specs.declared.Found.{Found}
-use Rattle.address_expression.specs.declared.Found.TheVariants.{NoAddress, AddressTo}
+use Rattle.address_expression.specs.declared.Operator.{Operator}
+use Rattle.address_expression.specs.declared.Operator.TheVariants.{Plus, Minus, Times}
+use Rattle.definition_assembler.specs.Answers.{Address}
 use Rattle.definition_assembler.specs.Letters.{ascii}
 use Rattle.definition_assembler.specs.Grammar.{in_range}
 use Rattle.definition_assembler.specs.Line.{Evaluated, address_of}
-use Rattle.definition_assembler.specs.Reader.{Actions, Left, Nothing, Plus, Minus, Times, Parsed, failed, parsed}
+use Rattle.definition_assembler.specs.Reader as Reader
+use Rattle.definition_assembler.specs.Reader.{Actions, Left, Parsed, failed, parsed}
 use Rattle.definition_assembler.specs.Assembling.{decimal_bytes}
 
--- ---- sign and magnitude
-unfoldable pub with_sign : Bool → ℕ → ℤ
-with_sign false n = pos n
-with_sign true n = neg_ℤ (pos n)
+-- z, if it is in range
+abbrev pub kept : ℤ → Option ℤ
+kept z = cond (in_range z) (Some z) None
 
-abbrev pub is_negative : ℤ → Bool
-is_negative (pos n) = false
-is_negative (negsuc n) = true
-
-abbrev pub magnitude_of : ℤ → ℕ
-magnitude_of (pos n) = n
-magnitude_of (negsuc n) = suc n
-
-abbrev pub value_of : Value → ℤ
-value_of x = with_sign x.negative x.magnitude
-
-abbrev pub out_of_range_at : ℕ → Value
-out_of_range_at d = record { fits = false; negative = false; magnitude = 0; depth = d }
-
--- z, if every value so far and z are in range
-unfoldable pub kept : Bool → ℤ → ℕ → Value
-kept good z d = cond (good && in_range z) (record { fits = true; negative = is_negative z; magnitude = magnitude_of z; depth = d }) (out_of_range_at d)
+-- what an operator gives for two values in range
+abbrev pub kept_of : (ℤ → ℤ → ℤ) → Option ℤ → Option ℤ → Option ℤ
+kept_of op None y = None
+kept_of op (Some x) None = None
+kept_of op (Some x) (Some y) = kept (op x y)
 
 abbrev pub deeper : ℕ → ℕ
 deeper d = cond (ltb d 17) (suc d) d
@@ -45,48 +32,47 @@ abbrev pub with_digit : ℕ → ℕ → ℕ
 with_digit n b = cond (ltb n 8388608) (10 * n + (b - ascii "0")) n
 
 -- ---- semantic actions
-unfoldable pub sum_of : Value → Value → Value
-sum_of x y = kept (x.fits && y.fits) (value_of x +ℤ value_of y) (max x.depth y.depth)
-
-unfoldable pub difference_of : Value → Value → Value
-difference_of x y = kept (x.fits && y.fits) (value_of x -ℤ value_of y) (max x.depth y.depth)
-
-unfoldable pub product_of : Value → Value → Value
-product_of x y = kept (x.fits && y.fits) (value_of x *ℤ value_of y) (max x.depth y.depth)
+abbrev pub result_of : (ℤ → ℤ → ℤ) → Value → Value → Value
+result_of op x y = record { number = kept_of op x.number y.number; depth = max x.depth y.depth }
 
 abbrev pub group_of : Value → Value
-group_of x = record { fits = x.fits; negative = x.negative; magnitude = x.magnitude; depth = deeper x.depth }
+group_of x = record { number = x.number; depth = deeper x.depth }
 
-unfoldable pub number_of : List ℕ → Value
-number_of bs = kept true (pos (decimal_bytes 0 bs)) 0
+abbrev pub number_of : List ℕ → Value
+number_of bs = record { number = kept (pos (decimal_bytes 0 bs)); depth = 0 }
 
 abbrev pub values : Actions Value
-values = record { of_number = λ b bs. number_of (b ∷ bs); of_group = group_of; of_plus = sum_of; of_minus = difference_of; of_times = product_of }
+values = record { of_number = λ b bs. number_of (b ∷ bs); of_group = group_of; of_plus = result_of ◌+ℤ◌; of_minus = result_of ◌-ℤ◌; of_times = result_of ◌*ℤ◌ }
 
--- ---- the code's enums
-abbrev pub left_of : LeftOperand → Left Value
-left_of NoOperand = Nothing
-left_of (BeforePlus x) = Plus x
-left_of (BeforeMinus x) = Minus x
-left_of (BeforeTimes x) = Times x
+-- ---- the code's types
+abbrev pub operation : Operator → ℤ → ℤ → ℤ
+operation Plus = ◌+ℤ◌
+operation Minus = ◌-ℤ◌
+operation Times = ◌*ℤ◌
 
-abbrev pub reading_of : Parsed Value → Reading
-reading_of failed = Failed
-reading_of (parsed x n) = Read x n
+abbrev pub left_of : Operator → Value → Left Value
+left_of Plus x = Reader.Plus x
+left_of Minus x = Reader.Minus x
+left_of Times x = Reader.Times x
 
-abbrev pub parsed_of : Reading → Parsed Value
-parsed_of Failed = failed
-parsed_of (Read x n) = parsed x n
+-- the operator of a sum in front of a text, and the text after it
+abbrev pub operator_of : List ℕ → Option (Operator × List ℕ)
+operator_of [] = None
+operator_of (b ∷ r) = cond (eqb b (ascii "+")) (Some (Plus, r)) (cond (eqb b (ascii "-")) (Some (Minus, r)) None)
 
--- what was read lies within the text
-abbrev pub Placed : List ℕ → Reading → Type 0
-Placed t Failed = Unit {0}
-Placed t (Read x n) = n ≤ length t
+-- what was read, and the text after it
+abbrev pub reading_of : {A : Type 0} → List ℕ → Parsed A → Option (A × List ℕ)
+reading_of t failed = None
+reading_of t (parsed x n) = Some (x, drop n t)
+
+abbrev pub reading : {A : Type 0} → Option (A × Bor (List ℕ)) → Option (A × List ℕ)
+reading None = None
+reading (Some p) = Some (p.0, p.1.now)
 
 -- what a value stands for
 abbrev pub evaluated_of : Value → Evaluated
-evaluated_of x = record { value = value_of x; fits = x.fits; depth = x.depth }
+evaluated_of x = record { value = unwrap_or x.number (pos 0); fits = is_some x.number; depth = x.depth }
 
-abbrev pub found_of : Parsed Evaluated → Found
-found_of failed = NoAddress
-found_of (parsed e n) = AddressTo (address_of e) n
+abbrev pub found_of : List ℕ → Parsed Evaluated → Option (Address × List ℕ)
+found_of t failed = None
+found_of t (parsed e n) = Some (address_of e, drop n t)

@@ -127,9 +127,9 @@ right_fraction a b h =
 left_normal : (a : ℕ) → Extended a → (a ≡ 0 → ⊥) → af_normal (af_left a) ≡ true
 left_normal a e n =
     let z : a ≢ 0 = n in
-    let p : 0 < a % 2 ^ 38 * 2 ^ 10 = omega arith in
-    let l : a % 2 ^ 38 * 2 ^ 10 < 2 ^ 48 = omega arith in
-    sym (same_test (af_left a)) ∙ ap (normal_at 48) (sym (left_is a)) ∙ normalized (a % 2 ^ 38 * 2 ^ 10) p l
+    let p : 0 < a % 2 ^ 38 = omega arith in
+    let l : a % 2 ^ 38 < 2 ^ 38 = omega arith in
+    sym (same_test (af_left a)) ∙ ap (normal_at 38) (sym (left_is a)) ∙ normalized (a % 2 ^ 38) p l
 
 pub left_shifts_end : LeftShiftsEnd
 left_shifts_end a b e = left_normal a (record { small = b; equal = e })

@@ -24,6 +24,6 @@ normalizing_ends n w g b l h =
     until_ends (normal_at n) (norm_step n) (Shifted n) 48 (λ x a. absurd (let k = apart_lt n 48 x.word a in omega arith)) (λ i x. shift n i x g)
     48 0 (record { word = w; shifts = 0 }) refl (record { low = l; high = omega arith })
 
--- at 48 bits
-pub normalized : (w : ℕ) → 0 < w → w < 2 ^ 48 → normal_at 48 (normalize 48 w) ≡ true
-normalized w l h = normalizing_ends 48 w (omega arith) (omega arith) l h
+-- at 38 bits
+pub normalized : (w : ℕ) → 0 < w → w < 2 ^ 38 → normal_at 38 (normalize 38 w) ≡ true
+normalized w l h = normalizing_ends 38 w (omega arith) (omega arith) l h

@@ -1,230 +1,136 @@
-// The assembler: a mnemonic, a dot if relative, a register, an index, an address; the last two in square brackets if indirect.
+// The assembler: a mnemonic, a dot if relative, a register, an index, an address; the last two in square brackets if indirect. Each part is read from
+// the front of a text and given with the text after it, or none where the text is outside the grammar.
 #![tactic(auto)]
 
-ghost use Rattle.std.specs.Prelude.{◌≡◌, cond, ◌&&◌, ◌+◌, ◌-◌, ◌≤◌, ◌<◌, eqb};
+ghost use Rattle.std.specs.Prelude.{◌≡◌, ◌<◌};
+ghost use Rattle.std.specs.List.{position};
 ghost use Rattle.definition_assembler.specs.Line.{fields, word_of};
-ghost use Rattle.definition_assembler.specs.Head.{code_of, byte, past, is_register, is_index, register_good, index_good, index_of, past_index, head_good};
-ghost use Rattle.definition_assembler.specs.Assembling.{ended, head_answer, assembling};
-ghost use Rattle.assembler.specs.Steps.{letter_table, Tested};
+ghost use Rattle.definition_assembler.specs.Head.{code_of};
+ghost use Rattle.definition_assembler.specs.Assembling.{ended, assembling};
+ghost use Rattle.address_expression.specs.Values.{reading};
+ghost use Rattle.assembler.specs.Steps.{has_letters, assigned, mark, mark_of, register_of, index_from, head_of};
 
-use address_expression::Found;
-use definition_assembler::{Address, Assembled};
 use machine::Refusal;
 
-fn has(text: &[u8], at: usize, b: u8) -> bool
-    ensures { result ≡ eqb (byte text.now at) b }
-{
-    address_expression::byte_at(text, at) == b
+const LONGEST: usize = 255;
+
+// The letters of the codes, in the order of the codes.
+static LETTERS: [[u8; 2]; 58] = [
+    *b"AW", *b"IO", *b"BL", *b"HL", *b"LA", *b"LO", *b"LX", *b"WA", *b"WS", *b"AM", *b"WM", *b"AL",
+    *b"ML", *b"JL", *b"JD", *b"JE", *b"XL", *b"BS", *b"BA", *b"BZ", *b"RL", *b"SP", *b"KL", *b"RS",
+    *b"WD", *b"RX", *b"HS", *b"XS", *b"PL", *b"PS", *b"MS", *b"IS", *b"CI", *b"AC", *b"NS", *b"ND",
+    *b"AS", *b"AD", *b"LS", *b"LD", *b"SH", *b"SL", *b"SE", *b"SN", *b"SO", *b"SZ", *b"SX", *b"IC",
+    *b"FA", *b"FS", *b"FM", *b"KS", *b"FD", *b"CF", *b"DL", *b"DS", *b"AA", *b"SS",
+];
+
+// What stands before an address.
+#[derive(Clone, Copy)]
+pub struct Head {
+    pub code: u32,
+    pub w: u32,
+    pub relative: bool,
+    pub indirect: bool,
+    pub x: u32,
 }
 
-// The place after a byte that may stand there. The places before an address are below 20; 1000 is far from overflow.
-fn past_byte(text: &[u8], at: usize, b: u8) -> usize
-    requires { at < 1000 }
-    ensures place { result ≡ past text.now at b }
-    ensures near { result ≤ at + 1 }
+fn place_of(table: &[[u8; 2]], a: u8, b: u8) -> Option<usize>
+    ensures { result ≡ position (has_letters a b) table.now }
 {
-    if has(text, at, b) { at + 1 } else { at }
+    table
+        .iter()
+        .position(|letters| letters[0] == a && letters[1] == b)
 }
 
-fn is_register(b: u8) -> bool
-    ensures { result ≡ is_register b }
+fn code_of(a: u8, b: u8) -> Option<u32>
+    ensures { result ≡ assigned (code_of a b) }
 {
-    if b < b'0' {
-        return false;
+    let code = place_of(&LETTERS, a, b)?;
+    Some(code as u32)
+}
+
+// Whether the byte stands in front.
+fn past_byte(text: &[u8], byte: u8) -> (bool, &[u8])
+    requires { 0 < byte }
+    ensures { mark result ≡ mark_of byte text.now }
+{
+    match text {
+        [first, rest @ ..] if *first == byte => (true, rest),
+        _ => (false, text),
     }
-    b <= b'3'
-}
-
-fn is_index(b: u8) -> bool
-    ensures { result ≡ is_index b }
-{
-    if b < b'1' {
-        return false;
-    }
-    b <= b'3'
-}
-
-fn digit(b: u8) -> u32
-    ensures { result ≡ b - 48 }
-{
-    if b < b'0' { 0 } else { (b - b'0') as u32 }
 }
 
 // A space, W, a register, a space.
-fn register_good(text: &[u8], p: usize) -> bool
-    requires { p < 1000 }
-    ensures { result ≡ register_good text.now p }
+fn register(text: &[u8]) -> Option<(u32, &[u8])>
+    ensures { reading result ≡ register_of text.now }
 {
-    if !has(text, p, b' ') {
-        return false;
+    match text {
+        [b' ', b'W', w @ b'0'..=b'3', b' ', rest @ ..] => Some((u32::from(w - b'0'), rest)),
+        _ => None,
     }
-    if !has(text, p + 1, b'W') {
-        return false;
-    }
-    if !is_register(address_expression::byte_at(text, p + 2)) {
-        return false;
-    }
-    has(text, p + 3, b' ')
 }
 
 // X, an index, a comma; or no X.
-fn index_good(text: &[u8], q: usize) -> bool
-    requires { q < 1000 }
-    ensures { result ≡ index_good text.now q }
+fn index(text: &[u8]) -> Option<(u32, &[u8])>
+    ensures { reading result ≡ index_from text.now }
 {
-    if !has(text, q, b'X') {
-        return true;
+    match text {
+        [b'X', x @ b'1'..=b'3', b',', rest @ ..] => Some((u32::from(x - b'0'), rest)),
+        [b'X', ..] => None,
+        _ => Some((0, text)),
     }
-    if !is_index(address_expression::byte_at(text, q + 1)) {
-        return false;
+}
+
+fn read_head(text: &[u8]) -> Option<(Head, &[u8])>
+    ensures { reading result ≡ head_of text.now }
+{
+    let [a, b, rest @ ..] = text else {
+        return None;
+    };
+    let code = code_of(*a, *b)?;
+    let (relative, rest) = past_byte(rest, b'.');
+    let (w, rest) = register(rest)?;
+    let (indirect, rest) = past_byte(rest, b'[');
+    let (x, rest) = index(rest)?;
+    let head = Head {
+        code,
+        w,
+        relative,
+        indirect,
+        x,
+    };
+    Some((head, rest))
+}
+
+// What stands after an address: the closing bracket, if one was opened, and the end of the text.
+fn ends(text: &[u8], indirect: bool) -> bool
+    ensures { result ≡ ended text.now indirect 0 }
+{
+    match text {
+        [] => !indirect,
+        [b']'] => indirect,
+        _ => false,
     }
-    has(text, q + 2, b',')
 }
 
-fn index_of(text: &[u8], q: usize) -> u32
-    requires { q < 1000 }
-    ensures { result ≡ index_of text.now q }
+fn word_of(h: Head, d: u32) -> u32
+    requires { (h.code < 64) × (h.w < 4) × (h.x < 4) × (d < 4096) }
+    ensures { result ≡ word_of (fields h.code h.w h.relative h.indirect h.x d) }
 {
-    if !has(text, q, b'X') {
-        return 0;
-    }
-    digit(address_expression::byte_at(text, q + 1))
-}
-
-fn past_index(text: &[u8], q: usize) -> usize
-    requires { q < 1000 }
-    ensures { result ≡ past_index text.now q }
-{
-    if has(text, q, b'X') { q + 3 } else { q }
-}
-
-fn pair_at(table: &[u8], at: usize, a: u8, b: u8) -> bool
-    requires { at < 1000 }
-    ensures { result ≡ eqb a (byte table.now at) && eqb b (byte table.now (at + 1)) }
-{
-    if a == address_expression::byte_at(table, at) {
-        return b == address_expression::byte_at(table, at + 1);
-    }
-    false
-}
-
-// The code of two letters, 58 for none.
-fn code_in(table: &[u8], a: u8, b: u8) -> u32
-    requires { table.now ≡ letter_table }
-    ensures { result ≡ code_of a b }
-{
-    let mut i = 0;
-    let mut code = 0;
-    while i < 116 {
-        if pair_at(table, i, a, b) {
-            return code;
-        }
-        i += 2;
-        code += 1;
-    }
-    58
-}
-
-fn code_of(a: u8, b: u8) -> u32
-    ensures { result ≡ code_of a b }
-{
-    code_in(
-        b"AWIOBLHLLALOLXWAWSAMWMALMLJLJDJEXLBSBABZRLSPKLRSWDRXHSXSPLPSMSISCIACNSNDASADLSLDSHSLSESNSOSZSXICFAFSFMKSFDCFDLDSAASS",
-        a,
-        b,
-    )
-}
-
-fn code_at_start(text: &[u8]) -> u32
-    ensures { result ≡ code_of (byte text.now 0) (byte text.now 1) }
-{
-    code_of(
-        address_expression::byte_at(text, 0),
-        address_expression::byte_at(text, 1),
-    )
-}
-
-fn head_good(text: &[u8], code: u32) -> bool
-    requires { code ≡ code_of (byte text.now 0) (byte text.now 1) }
-    ensures { result ≡ head_good text.now }
-{
-    if 58 <= code {
-        return false;
-    }
-    let p = past_byte(text, 2, b'.');
-    if !register_good(text, p) {
-        return false;
-    }
-    index_good(text, past_byte(text, p + 4, b'['))
-}
-
-// The closing bracket, if one was opened, and the end of the text.
-fn ends(text: &[u8], indirect: bool, n: usize) -> bool
-    ensures { result ≡ ended text.now indirect n }
-{
-    if !indirect {
-        return n == text.len();
-    }
-    if !has(text, n, b']') {
-        return false;
-    }
-    n + 1 == text.len()
-}
-
-fn flag(b: bool, value: u32) -> u32
-    ensures value { result ≡ cond b value 0 }
-    ensures small { result ≤ value }
-{
-    if b { value } else { 0 }
-}
-
-fn word_of(code: u32, w: u32, relative: bool, indirect: bool, x: u32, d: u32) -> u32
-    requires { (code < 64) × (w < 4) × (x < 4) × (d < 4096) }
-    ensures { result ≡ word_of (fields code w relative indirect x d) }
-{
-    let m = flag(relative, 2) + flag(indirect, 1);
-    code * 262144 + w * 65536 + m * 16384 + x * 4096 + d
-}
-
-// The answer, once the parts before the address were tested.
-fn complete(text: &[u8], code: u32, p: usize, q: usize, a: Address) -> Assembled
-    requires { Tested text.now code p q a }
-    ensures { result ≡ head_answer text.now a }
-{
-    match a {
-        Address::AddressRefused(refusal) => Assembled::Refused(refusal),
-        Address::Displacement(d) => {
-            let w = digit(address_expression::byte_at(text, p + 2));
-            let relative = has(text, 2, b'.');
-            let indirect = has(text, p + 4, b'[');
-            let x = index_of(text, q);
-            Assembled::Word(word_of(code, w, relative, indirect, x, d))
-        }
-    }
+    let m = 2 * u32::from(h.relative) + u32::from(h.indirect);
+    h.code * 262144 + h.w * 65536 + m * 16384 + h.x * 4096 + d
 }
 
 // The word of a line, or its refusal: 19 outside the grammar or over 255 characters, 20 too deep, 21 a value out of range.
-pub fn assemble(text: &[u8]) -> Assembled
+pub fn assemble(text: &[u8]) -> Result<u32, Refusal>
     ensures { result ≡ assembling text.now }
 {
-    if 255 < text.len() {
-        return Assembled::Refused(Refusal::LineGrammar);
+    if LONGEST < text.len() {
+        return Err(Refusal::LineGrammar);
     }
-    let code = code_at_start(text);
-    if !head_good(text, code) {
-        return Assembled::Refused(Refusal::LineGrammar);
+    let (head, rest) = read_head(text).ok_or(Refusal::LineGrammar)?;
+    let (address, rest) = address_expression::address(rest).ok_or(Refusal::LineGrammar)?;
+    if !ends(rest, head.indirect) {
+        return Err(Refusal::LineGrammar);
     }
-    let p = past_byte(text, 2, b'.');
-    let q = past_byte(text, p + 4, b'[');
-    let f = address_expression::address_at(text, past_index(text, q));
-    match f {
-        Found::AddressTo(a, n) => {
-            if ends(text, has(text, p + 4, b'['), n) {
-                complete(text, code, p, q, a)
-            } else {
-                Assembled::Refused(Refusal::LineGrammar)
-            }
-        }
-        Found::NoAddress => Assembled::Refused(Refusal::LineGrammar),
-    }
+    Ok(word_of(head, address?))
 }

@@ -15,10 +15,7 @@ use Rattle.machine.specs.declared.Autoloaded.{Autoloaded}
 use Rattle.machine.specs.declared.Kind.TheVariants.{Exception, Line}
 use Rattle.machine.specs.declared.Outcome.TheVariants.{Spent, Interrupted, Reset}
 use Rattle.machine.specs.declared.Refusal.TheVariants.{StoreSize, CellValue, ControlField, RemarkLength, WrittenLength, BufferLength}
-use Rattle.machine.specs.declared.Verdict.{Verdict}
-use Rattle.machine.specs.declared.Verdict.TheVariants.{Accepted, Rejected}
-use Rattle.machine.specs.declared.Answer.{Answer}
-use Rattle.machine.specs.declared.Answer.TheVariants.{Refused, Ended}
+use Rattle.machine.specs.Verdicts.{Verdict, Accepted, Rejected, Answer, Refused, Ended}
 use Rattle.machine.specs.Answers.{verdict_number}
 use Rattle.acceptance.proofs.Tests.{refused}
 use Rattle.acceptance.specs.Accept.{size_fits, cells_fit, control_fits, timer_fits, judge_store, judge_registers, judge_timer, judge_machine}

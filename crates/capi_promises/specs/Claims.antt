@@ -5,9 +5,7 @@ use Rattle.machine.specs.declared.Devices.{Devices}
 use Rattle.machine.specs.declared.Record.{Record}
 use Rattle.machine.specs.declared.Run.{Run}
 use Rattle.machine.specs.declared.Outcome.{Outcome}
-use Rattle.machine.specs.declared.Answer.TheVariants.{Ended}
-use Rattle.machine.specs.declared.Verdict.{Verdict}
-use Rattle.machine.specs.declared.Verdict.TheVariants.{Accepted}
+use Rattle.machine.specs.Verdicts.{Ended, Verdict, Accepted}
 use Rattle.machine.specs.declared.Refusal.{Refusal}
 use Rattle.machine.specs.Answers.{refusal_number, verdict_number}
 use Rattle.acceptance.specs.Accept.{size_fits, cells_fit, control_fits, timer_fits, devices_fit}
@@ -17,7 +15,7 @@ use Rattle.definition_runs.specs.Lent.{run_lent, autoload_lent}
 use Rattle.definition_tape.specs.Load.{Loaded, loading, overlaying}
 use Rattle.definition_tape.specs.Writing.{remark_of, remark_fits, writing}
 use Rattle.writer_promises.specs.Claims.{tape_size}
-use Rattle.definition_assembler.specs.declared.Assembled.TheVariants.{Refused, Word}
+use Rattle.definition_assembler.specs.Answers.{Refused, Word}
 use Rattle.definition_assembler.specs.Assembling.{assembling}
 use Rattle.capi_records.specs.declared.ControlRecord.{ControlRecord}
 use Rattle.capi_records.specs.declared.CallResult.{CallResult}

@@ -1,6 +1,6 @@
 -- The C calls (host/include/rc4000.h): the control record as it crosses, its tests, and what each call hands back.
 -- Assumes nothing.
-use Rattle.std.specs.Prelude.{ℕ, Bool, false, not, cond, List, eqb, ltb}
+use Rattle.std.specs.Prelude.{ℕ, Bool, false, not, cond, List, eqb, ltb, Ok, Err}
 use Rattle.machine.specs.declared.Control.{Control}
 use Rattle.machine.specs.declared.Timer.{Timer}
 use Rattle.machine.specs.declared.Record.{Record}
@@ -12,10 +12,7 @@ use Rattle.machine.specs.declared.Outcome.{Outcome}
 use Rattle.machine.specs.declared.Outcome.TheVariants.{Reset, Interrupted, Spent}
 use Rattle.machine.specs.declared.Refusal.{Refusal}
 use Rattle.machine.specs.declared.Refusal.TheVariants.{ControlField}
-use Rattle.machine.specs.declared.Verdict.{Verdict}
-use Rattle.machine.specs.declared.Verdict.TheVariants.{Accepted, Rejected}
-use Rattle.machine.specs.declared.Answer.{Answer}
-use Rattle.machine.specs.declared.Answer.TheVariants.{Refused, Ended}
+use Rattle.machine.specs.Verdicts.{Verdict, Accepted, Rejected, Answer, Refused, Ended}
 use Rattle.machine.specs.Answers.{refusal_number, kind_number}
 use Rattle.acceptance.specs.Accept.{judge_store}
 use Rattle.definition_runs.specs.Timed.{TimedComputer}
@@ -24,15 +21,14 @@ use Rattle.definition_runs.specs.Lent as Lent
 use Rattle.definition_runs.specs.Lent.{run_lent, KeyReturned, autoload_lent}
 use Rattle.definition_tape.specs.Load.{judge_then, Loaded, loading, overlaying}
 use Rattle.definition_tape.specs.Writing.{remark_of, Writing, writing}
-use Rattle.definition_tape.specs.declared.Span.{Span}
-use Rattle.definition_tape.specs.declared.Written.{Written}
+use Rattle.definition_tape.specs.Remark.{Span}
+use Rattle.definition_tape.specs.Writing.{Written}
 use Rattle.capi_records.specs.declared.ControlRecord.{ControlRecord}
 use Rattle.capi_records.specs.declared.CallResult.{CallResult}
 use Rattle.capi_records.specs.declared.StateResult.{StateResult}
 use Rattle.capi_records.specs.declared.AutoloadResult.{AutoloadResult}
 use Rattle.capi_records.specs.declared.TextResult.{TextResult}
-use Rattle.definition_assembler.specs.declared.Assembled.{Assembled}
-use Rattle.definition_assembler.specs.declared.Assembled.TheVariants as Assembled
+use Rattle.definition_assembler.specs.Answers.{Assembled}
 use Rattle.definition_assembler.specs.Assembling.{assembling}
 use Rattle.capi_records.specs.declared.WriteResult.{WriteResult}
 use Rattle.capi_records.specs.declared.AssembleResult.{AssembleResult}
@@ -228,8 +224,8 @@ write_call s r g m o = write_by (judge_flags s r) o (writing s (record_in r) (re
 
 -- refusal 0: the word; else the word is 0
 abbrev pub assemble_result : Assembled → AssembleResult
-assemble_result (Assembled.Refused q) = record { refusal = refusal_number q; word = 0 }
-assemble_result (Assembled.Word v) = record { refusal = 0; word = v }
+assemble_result (Err q) = record { refusal = refusal_number q; word = 0 }
+assemble_result (Ok v) = record { refusal = 0; word = v }
 
 unfoldable pub assemble_call : List ℕ → AssembleResult
 assemble_call t = assemble_result (assembling t)

@@ -2,14 +2,10 @@
 #![tactic(auto)]
 
 ghost use Rattle.std.specs.Prelude.{◌≡◌};
+ghost use Rattle.definition_tape.specs.Writing.{written};
 ghost use Rattle.capi_records.specs.Results.{flag_byte, flags_fit, registers_in, timer_in, record_in, record_of, judge_flags, outcome_code, outcome_number, result_by, refused_run, state_by, refused_state, autoloaded_by, refused_autoload, refused_write, write_result_by, assemble_result};
 
-use definition_assembler::Assembled;
-use definition_tape::Written;
-use machine::{
-    Answer, Autoloaded, Control, Devices, Kind, Outcome, Record, Refusal, Run, State, Timer,
-    Verdict,
-};
+use machine::{Autoloaded, Control, Devices, Kind, Outcome, Record, Refusal, Run, State, Timer};
 
 // The control record as it crosses.
 #[repr(C)]
@@ -82,26 +78,16 @@ pub struct AssembleResult {
     pub word: u32,
 }
 
-fn flag_byte(f: bool) -> u8
-    ensures { result ≡ flag_byte f }
-{
-    if f { 1 } else { 0 }
-}
-
 impl ControlRecord {
     // Each flag byte is 0 or 1.
+    #[tactic(auto, unfolding(crate::specs::Results::flags_fit))]
     fn flags_fit(self) -> bool
         ensures { result ≡ flags_fit self }
     {
-        if self.monitor < 2 {
-            if self.enabled < 2 {
-                return self.reset < 2;
-            }
-            return false;
-        }
-        false
+        self.monitor < 2 && self.enabled < 2 && self.reset < 2
     }
 
+    #[tactic(auto, unfolding(crate::specs::Results::registers_in))]
     fn registers(self) -> Control
         ensures { result ≡ registers_in self }
     {
@@ -118,6 +104,7 @@ impl ControlRecord {
         }
     }
 
+    #[tactic(auto, unfolding(crate::specs::Results::timer_in))]
     fn timer(self) -> Timer
         ensures { result ≡ timer_in self }
     {
@@ -128,20 +115,24 @@ impl ControlRecord {
             line: self.line,
         }
     }
+}
 
-    // The control record that the bytes stand for.
-    pub fn record(self) -> Record
-        ensures { result ≡ record_in self }
+// The control record that the bytes stand for.
+#[tactic(auto, unfolding(crate::specs::Results::record_in))]
+impl From<ControlRecord> for Record {
+    fn from(r: ControlRecord) -> Record
+        ensures { result ≡ record_in r }
     {
-        let c = self.registers();
-        let t = self.timer();
         Record {
-            registers: c,
-            timer: t,
+            registers: r.registers(),
+            timer: r.timer(),
         }
     }
+}
 
-    fn of(x: Record) -> ControlRecord
+#[tactic(auto, unfolding(crate::specs::Results::record_of, crate::specs::Results::flag_byte))]
+impl From<Record> for ControlRecord {
+    fn from(x: Record) -> ControlRecord
         ensures { result ≡ record_of x }
     {
         let c = x.registers;
@@ -153,9 +144,9 @@ impl ControlRecord {
             pending: c.pending,
             pr: c.pr,
             ex: c.ex,
-            monitor: flag_byte(c.monitor),
-            enabled: flag_byte(c.enabled),
-            reset: flag_byte(c.reset),
+            monitor: u8::from(c.monitor),
+            enabled: u8::from(c.enabled),
+            reset: u8::from(c.reset),
             elapsed: t.elapsed,
             period: t.period,
             phase: t.phase,
@@ -165,26 +156,15 @@ impl ControlRecord {
 }
 
 // 3 for a flag byte over 1, after the store's 1 and 2. With good flag bytes the store is not looked at: the call itself does that.
-pub fn judge_flags(store: &[u32], r: ControlRecord) -> Verdict
+#[tactic(auto, unfolding(crate::specs::Results::judge_flags))]
+pub fn judge_flags(store: &[u32], r: ControlRecord) -> Result<(), Refusal>
     ensures { result ≡ judge_flags store.now r }
 {
     if r.flags_fit() {
-        return Verdict::Accepted;
+        return Ok(());
     }
-    let v = acceptance::judge_store(store);
-    match v {
-        Verdict::Accepted => Verdict::Rejected(Refusal::ControlField),
-        Verdict::Rejected(q) => Verdict::Rejected(q),
-    }
-}
-
-fn interruption_code(k: Kind) -> u32
-    ensures { result ≡ outcome_code (Outcome.Interrupted k) }
-{
-    match k {
-        Kind::Exception => 3,
-        Kind::Line(_) => 4,
-    }
+    acceptance::judge_store(store)?;
+    Err(Refusal::ControlField)
 }
 
 fn outcome_code(o: Outcome) -> u32
@@ -193,7 +173,8 @@ fn outcome_code(o: Outcome) -> u32
     match o {
         Outcome::Spent => 1,
         Outcome::Reset => 2,
-        Outcome::Interrupted(k) => interruption_code(k),
+        Outcome::Interrupted(Kind::Exception) => 3,
+        Outcome::Interrupted(Kind::Line(_)) => 4,
     }
 }
 
@@ -201,8 +182,7 @@ fn outcome_number(o: Outcome) -> u32
     ensures { result ≡ outcome_number o }
 {
     match o {
-        Outcome::Spent => 0,
-        Outcome::Reset => 0,
+        Outcome::Spent | Outcome::Reset => 0,
         Outcome::Interrupted(k) => k.number(),
     }
 }
@@ -210,11 +190,10 @@ fn outcome_number(o: Outcome) -> u32
 pub fn refused_run(q: Refusal, r: ControlRecord, d: Devices) -> CallResult
     ensures { result ≡ refused_run q r d }
 {
-    let n = q.number();
     CallResult {
         control: r,
         outcome: 0,
-        number: n,
+        number: q.number(),
         executed: 0,
         entries: 0,
         devices: d,
@@ -226,120 +205,94 @@ pub fn refused_run(q: Refusal, r: ControlRecord, d: Devices) -> CallResult
 pub fn run_result(x: Run, r: ControlRecord, given: Devices) -> CallResult
     ensures { result ≡ result_by x.answer r given x }
 {
-    let a = x.answer;
-    match a {
-        Answer::Refused(q) => refused_run(q, r, given),
-        Answer::Ended(o) => {
-            let c = x.control;
-            let d = ControlRecord::of(c);
-            let k = outcome_code(o);
-            let n = outcome_number(o);
-            let v = x.devices;
-            CallResult {
-                control: d,
-                outcome: k,
-                number: n,
-                executed: x.executed,
-                entries: x.entries,
-                devices: v,
-                taken: x.taken,
-                typed: x.typed,
-            }
-        }
+    match x.answer {
+        Err(q) => refused_run(q, r, given),
+        Ok(o) => CallResult {
+            control: ControlRecord::from(x.control),
+            outcome: outcome_code(o),
+            number: outcome_number(o),
+            executed: x.executed,
+            entries: x.entries,
+            devices: x.devices,
+            taken: x.taken,
+            typed: x.typed,
+        },
     }
 }
 
 pub fn refused_state(q: Refusal, r: ControlRecord) -> StateResult
     ensures { result ≡ refused_state q r }
 {
-    let n = q.number();
     StateResult {
         control: r,
-        refusal: n,
+        refusal: q.number(),
     }
 }
 
 pub fn state_result(x: State, r: ControlRecord) -> StateResult
     ensures { result ≡ state_by x.verdict r x.control }
 {
-    let v = x.verdict;
-    match v {
-        Verdict::Rejected(q) => refused_state(q, r),
-        Verdict::Accepted => {
-            let c = x.control;
-            let after = ControlRecord::of(c);
-            StateResult {
-                control: after,
-                refusal: 0,
-            }
-        }
+    match x.verdict {
+        Err(q) => refused_state(q, r),
+        Ok(()) => StateResult {
+            control: ControlRecord::from(x.control),
+            refusal: 0,
+        },
     }
 }
 
 pub fn refused_autoload(q: Refusal, r: ControlRecord, d: Devices) -> AutoloadResult
     ensures { result ≡ refused_autoload q r d }
 {
-    let n = q.number();
     AutoloadResult {
         control: r,
-        refusal: n,
+        refusal: q.number(),
         devices: d,
         taken: 0,
     }
 }
 
-pub fn autoload_result(x: Autoloaded, r: ControlRecord, given: Devices) -> AutoloadResult
-    ensures { result ≡ autoloaded_by x.verdict r given x }
+pub fn autoload_result(a: Autoloaded, r: ControlRecord, given: Devices) -> AutoloadResult
+    ensures { result ≡ autoloaded_by a.verdict r given a }
 {
-    let v = x.verdict;
-    match v {
-        Verdict::Rejected(q) => refused_autoload(q, r, given),
-        Verdict::Accepted => {
-            let c = x.control;
-            let after = ControlRecord::of(c);
-            let d = x.devices;
-            AutoloadResult {
-                control: after,
-                refusal: 0,
-                devices: d,
-                taken: x.taken,
-            }
-        }
+    match a.verdict {
+        Err(q) => refused_autoload(q, r, given),
+        Ok(()) => AutoloadResult {
+            control: ControlRecord::from(a.control),
+            refusal: 0,
+            devices: a.devices,
+            taken: a.taken,
+        },
     }
 }
 
 pub fn refused_write(q: Refusal) -> WriteResult
     ensures { result ≡ refused_write q }
 {
-    let n = q.number();
     WriteResult {
-        refusal: n,
+        refusal: q.number(),
         length: 0,
     }
 }
 
-pub fn write_result(x: Written) -> WriteResult
-    ensures { result ≡ write_result_by x.verdict x }
+pub fn write_result(x: Result<usize, Refusal>) -> WriteResult
+    ensures { result ≡ write_result_by (written x).verdict (written x) }
 {
-    let v = x.verdict;
-    match v {
-        Verdict::Rejected(q) => refused_write(q),
-        Verdict::Accepted => WriteResult {
-            refusal: 0,
-            length: x.length,
-        },
+    match x {
+        Ok(length) => WriteResult { refusal: 0, length },
+        Err(q) => refused_write(q),
     }
 }
 
-pub fn assemble_result(x: Assembled) -> AssembleResult
+pub fn assemble_result(x: Result<u32, Refusal>) -> AssembleResult
     ensures { result ≡ assemble_result x }
 {
     match x {
-        Assembled::Refused(q) => AssembleResult {
+        Err(q) => AssembleResult {
             refusal: q.number(),
             word: 0,
         },
-        Assembled::Word(w) => AssembleResult {
+        Ok(w) => AssembleResult {
             refusal: 0,
             word: w,
         },

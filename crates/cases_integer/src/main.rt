@@ -2,40 +2,41 @@
 // name, the number of cases, and a checksum of every field of every result. tools/models/integer.py writes the lines that are expected.
 #![tactic(auto)]
 
+use cases_common::Generator;
+use operands::Operands;
+use operation::Operation;
 use std::io;
 
 mod operands;
 mod operation;
 
-// Every edge operand in the place of Wpre and W, with every edge operand or shift count in that of SB.
-fn edges(op: u32) -> u64 {
-    let mut h = 0u64;
-    for i in 0u32..2197 {
-        h = operation::case(op, operands::edge_case(op, i), h);
-    }
-    h
+fn edges(op: Operation) -> u32 {
+    (0..2197).fold(0, |h, i| {
+        op.mix_result(h, Operands::edge(i, op.shifts()))
+    })
 }
 
-fn random(op: u32, start: u64) -> u64 {
+fn random(op: Operation, start: u32) -> u32 {
     let mut h = start;
-    let mut s = op as u64;
-    for i in 0u32..10000 {
-        let x = operands::next(s);
-        let y = operands::next(x);
-        s = operands::next(y);
-        h = operation::case(op, operands::random_case(op, i, x, y, s), h);
+    let mut generator = Generator { last: op as u32 };
+    for i in 0..10000 {
+        let drawn = Operands {
+            pre: generator.draw_word(),
+            w: generator.draw_word(),
+            sb: generator.draw_word(),
+        };
+        h = op.mix_result(h, drawn.drawn(i, op.shifts()));
     }
     h
 }
 
-fn write_line(rt: &impl Print, op: u32) -> io::Result<()> {
+fn write_line(rt: &impl Print, op: Operation) -> io::Result<()> {
     let h = random(op, edges(op));
-    operation::write_name(rt, op)?;
-    println!(rt; " 12197 {h}")
+    println!(rt; "{op:?} 12197 {h}")
 }
 
 fn main(rt: HostRuntime) -> io::Result<()> {
-    for op in 0u32..23 {
+    for op in Operation::ALL {
         write_line(&rt, op)?;
     }
     Ok(())

@@ -7,140 +7,75 @@ pub struct Operands {
     pub pre: u32,
     pub w: u32,
     pub sb: u32,
+    ghost words: { (pre < 2 ^ 24) × (w < 2 ^ 24) × (sb < 2 ^ 24) },
 }
 
-fn edge(i: u32) -> u32
+const EDGES: [u32; 13] = [
+    8388608, 16777215, 0, 1, 8388607, 5592405, 11184810, 4095, 16773120, 4194304, 12582912, 2,
+    16777213,
+];
+
+const EDGE_COUNTS: [u32; 13] = [
+    0,
+    1,
+    23,
+    24,
+    47,
+    48,
+    63,
+    64,
+    16777216 - 1,
+    16777216 - 48,
+    16777216 - 63,
+    16777216 - 64,
+    8388608,
+];
+
+// A shifted word: its first bits behind leading zeros.
+fn small(word: u32, zeros: u32) -> u32
+    requires { (word < 2 ^ 24) × (zeros < 24) }
     ensures { result < 2 ^ 24 }
 {
-    match i {
-        0 => 8388608,
-        1 => 16777215,
-        2 => 0,
-        3 => 1,
-        4 => 8388607,
-        5 => 5592405,
-        6 => 11184810,
-        7 => 4095,
-        8 => 16773120,
-        9 => 4194304,
-        10 => 12582912,
-        11 => 2,
-        _ => 16777213,
-    }
+    word >> zeros
 }
 
-// Shift counts.
-fn edge_count(i: u32) -> u32
-    ensures { result < 2 ^ 24 }
-{
-    match i {
-        0 => 0,
-        1 => 1,
-        2 => 23,
-        3 => 24,
-        4 => 47,
-        5 => 48,
-        6 => 63,
-        7 => 64,
-        8 => 16777216 - 1,
-        9 => 16777216 - 48,
-        10 => 16777216 - 63,
-        11 => 16777216 - 64,
-        _ => 8388608,
-    }
-}
-
-// AS, AD, LS, LD
-fn shifts(op: u32) -> bool {
-    17 <= op && op <= 20
-}
-
-pub fn edge_case(op: u32, i: u32) -> Operands
-    ensures { (result.pre < 2 ^ 24) × (result.w < 2 ^ 24) × (result.sb < 2 ^ 24) }
-{
-    if shifts(op) {
+impl Operands {
+    // Every edge operand in the place of Wpre and W, with every edge operand or shift count in that of SB.
+    pub fn edge(i: u32, shifts: bool) -> Operands {
+        let sb = if shifts { EDGE_COUNTS } else { EDGES };
         Operands {
-            pre: edge(i / 169),
-            w: edge(i / 13 % 13),
-            sb: edge_count(i % 13),
-        }
-    } else {
-        Operands {
-            pre: edge(i / 169),
-            w: edge(i / 13 % 13),
-            sb: edge(i % 13),
+            pre: EDGES[(i / 169 % 13) as usize],
+            w: EDGES[(i / 13 % 13) as usize],
+            sb: sb[(i % 13) as usize],
         }
     }
-}
 
-// A linear congruential generator of 32 bits.
-pub fn next(s: u64) -> u64 {
-    (s % 4294967296 * 1664525 + 1013904223) % 4294967296
-}
-
-// k leading zeros, then the first bits of a random word.
-fn small(s: u64, k: u32) -> u32
-    ensures { result < 2 ^ 24 }
-{
-    ((s / 256 % 16777216) as u32 >> (k % 24)) % 16777216
-}
-
-fn count(s: u64) -> u32
-    ensures { result < 2 ^ 24 }
-{
-    ((s / 256 % 160) as u32 + 16777136) % 16777216
-}
-
-// Six kinds in rotation: random words; small and large Wpre, so that quotients fit; small numbers of each sign.
-fn random_words(i: u32, x: u64, y: u64, z: u64) -> Operands
-    ensures { (result.pre < 2 ^ 24) × (result.w < 2 ^ 24) × (result.sb < 2 ^ 24) }
-{
-    let k = i / 6 % 24;
-    match i % 6 {
-        0 => Operands {
-            pre: small(x, 0),
-            w: small(y, 0),
-            sb: small(z, 0),
-        },
-        1 => Operands {
-            pre: small(x, k),
-            w: small(y, 0),
-            sb: small(z, 0),
-        },
-        2 => Operands {
-            pre: 16777215 - small(x, k),
-            w: small(y, 0),
-            sb: small(z, 0),
-        },
-        3 => Operands {
-            pre: 0,
-            w: small(y, k),
-            sb: small(z, 23 - k),
-        },
-        4 => Operands {
-            pre: 16777215,
-            w: 16777215 - small(y, k),
-            sb: small(z, 23 - k),
-        },
-        _ => Operands {
-            pre: 0,
-            w: small(y, k),
-            sb: 16777215 - small(z, 23 - k),
-        },
+    // Six kinds in rotation: the words that were drawn; small and large Wpre, so that quotients fit; small numbers of each sign.
+    fn of_kind(self, i: u32) -> Operands {
+        let k = i / 6 % 24;
+        let (pre, w, sb) = match i % 6 {
+            0 => (self.pre, self.w, self.sb),
+            1 => (small(self.pre, k), self.w, self.sb),
+            2 => (16777215 - small(self.pre, k), self.w, self.sb),
+            3 => (0, small(self.w, k), small(self.sb, 23 - k)),
+            4 => (
+                16777215,
+                16777215 - small(self.w, k),
+                small(self.sb, 23 - k),
+            ),
+            _ => (0, small(self.w, k), 16777215 - small(self.sb, 23 - k)),
+        };
+        Operands { pre, w, sb }
     }
-}
 
-pub fn random_case(op: u32, i: u32, x: u64, y: u64, z: u64) -> Operands
-    ensures { (result.pre < 2 ^ 24) × (result.w < 2 ^ 24) × (result.sb < 2 ^ 24) }
-{
-    let r = random_words(i, x, y, z);
-    if shifts(op) {
-        Operands {
-            pre: r.pre,
-            w: r.w,
-            sb: count(z),
+    // Case i of the words that were drawn; of a shift SB is a count, -80 to 79.
+    pub fn drawn(self, i: u32, shifts: bool) -> Operands {
+        let Operands { pre, w, sb } = self.of_kind(i);
+        if shifts {
+            let sb = (self.sb % 160 + 16777136) % 16777216;
+            Operands { pre, w, sb }
+        } else {
+            Operands { pre, w, sb }
         }
-    } else {
-        r
     }
 }

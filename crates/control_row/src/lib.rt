@@ -1,16 +1,41 @@
 // The control registers during a run, in one lent row: a record passed by value moves through memory in every cycle (docs/PERFORMANCE.md). It is the
-// row of a machine outside the reset state, where alone cycles are made. Only this file knows the places.
+// row of a machine outside the reset state, where alone cycles are made.
 #![tactic(auto)]
 
 ghost use Rattle.std.specs.Prelude.{◌≡◌, false, cond, ◌<◌};
 ghost use Rattle.machine.specs.Store.{forbidden, violation};
 ghost use Rattle.machine.specs.Fields.{in_task, with_ic, with_ir, with_im, with_pending, with_pr, with_ex, with_enabled, raised, flags_cleared, overflowed, carry_set};
-ghost use Rattle.control_row.specs.Row.{control_at, mode_mask, IsRow, keeps_mode, with_monitor};
+ghost use Rattle.control_row.specs.Row.{mode_mask, keeps_mode, with_monitor};
 
 use machine::Control;
 use registers::WORD_RANGE;
+use std::marker::Model;
 
-pub type Row = [u32; 9];
+// The mask answers the protection test of a fetch and the mode together.
+#[derive(Drop)]
+pub struct Row {
+    ic: u32,
+    ir: u32,
+    im: u32,
+    pending: u32,
+    pr: u32,
+    ex: u32,
+    monitor: bool,
+    enabled: bool,
+    mask: u32,
+}
+
+impl Model for Row {
+    ghost use Rattle.std.specs.Prelude.{◌≡◌, ◌<◌, false};
+    ghost use Rattle.machine.specs.declared.Control.{Control};
+    ghost use Rattle.control_row.specs.Row.{mode_mask};
+
+    ghost Value = { Control };
+
+    ghost view = { λ k. record { ic = k.ic; ir = k.ir; im = k.im; pending = k.pending; pr = k.pr; ex = k.ex; monitor = k.monitor; enabled = k.enabled; reset = false } };
+
+    ghost invariant = { λ k. (k.pr < 256) × (k.mask ≡ mode_mask k.pr k.monitor) };
+}
 
 // How an instruction ended.
 #[derive(Clone, Copy)]
@@ -20,236 +45,210 @@ pub enum End {
     Faulted,
 }
 
-fn flag(b: bool) -> u32
-    ensures { result ≡ cond b 1 0 }
-{
-    if b { 1 } else { 0 }
-}
-
-fn mode_mask(pr: u32, monitor: u32) -> u32
+#[tactic(auto, unfolding(crate::specs::Row::mode_mask))]
+fn mode_mask(pr: u32, monitor: bool) -> u32
     requires { pr < 256 }
     ensures { result ≡ mode_mask pr monitor }
 {
-    if monitor == 1 { pr } else { 255 - pr }
+    if monitor { pr } else { 255 - pr }
 }
 
-// The row of a control record outside the reset state.
-pub fn row_of(c: Control) -> Row
-    requires { (c.pr < 256) × (c.reset ≡ false) }
-    ensures value { control_at result ≡ c }
-    ensures kept { IsRow result }
-{
-    let m = flag(c.monitor);
-    let e = flag(c.enabled);
-    let f = mode_mask(c.pr, m);
-    [c.ic, c.ir, c.im, c.pending, c.pr, c.ex, m, e, f]
-}
-
-pub fn control_of(k: &Row) -> Control
-    ensures { result ≡ control_at k.now }
-{
-    Control {
-        ic: k[0],
-        ir: k[1],
-        im: k[2],
-        pending: k[3],
-        pr: k[4],
-        ex: k[5],
-        monitor: k[6] == 1,
-        enabled: k[7] == 1,
-        reset: false,
+#[tactic(auto, unfolding(machine::specs::Store::forbidden, machine::specs::Store::violation, machine::specs::Fields::in_task, machine::specs::Fields::with_ic, machine::specs::Fields::with_ir, machine::specs::Fields::with_im, machine::specs::Fields::with_pending, machine::specs::Fields::with_pr, machine::specs::Fields::with_ex, machine::specs::Fields::with_enabled, machine::specs::Fields::raised, machine::specs::Fields::flags_cleared, machine::specs::Fields::overflowed, machine::specs::Fields::carry_set, crate::specs::Row::with_monitor, crate::specs::Row::mode_mask))]
+impl Row {
+    // The row of a control record outside the reset state.
+    pub fn of(c: Control) -> Row
+        requires { (c.pr < 256) × (c.reset ≡ false) }
+        ensures { result ≡ c }
+    {
+        Row {
+            ic: c.ic,
+            ir: c.ir,
+            im: c.im,
+            pending: c.pending,
+            pr: c.pr,
+            ex: c.ex,
+            monitor: c.monitor,
+            enabled: c.enabled,
+            mask: mode_mask(c.pr, c.monitor),
+        }
     }
-}
 
-pub fn ic(k: &Row) -> u32
-    ensures { result ≡ (control_at k.now).ic }
-{
-    k[0]
-}
-
-pub fn ir(k: &Row) -> u32
-    ensures { result ≡ (control_at k.now).ir }
-{
-    k[1]
-}
-
-pub fn im(k: &Row) -> u32
-    ensures { result ≡ (control_at k.now).im }
-{
-    k[2]
-}
-
-pub fn pending(k: &Row) -> u32
-    ensures { result ≡ (control_at k.now).pending }
-{
-    k[3]
-}
-
-pub fn pr(k: &Row) -> u32
-    ensures { result ≡ (control_at k.now).pr }
-{
-    k[4]
-}
-
-pub fn ex(k: &Row) -> u32
-    ensures { result ≡ (control_at k.now).ex }
-{
-    k[5]
-}
-
-// Test Mode.
-pub fn is_task(k: &Row) -> bool
-    ensures { result ≡ in_task (control_at k.now) }
-{
-    k[6] != 1
-}
-
-pub fn is_enabled(k: &Row) -> bool
-    ensures { result ≡ (control_at k.now).enabled }
-{
-    k[7] == 1
-}
-
-pub fn set_ic(k: &mut Row, v: u32)
-    requires { IsRow k.old }
-    ensures value { control_at k.new ≡ with_ic (control_at k.old) v }
-    ensures kept { IsRow k.new }
-{
-    k[0] = v % WORD_RANGE;
-}
-
-pub fn set_ir(k: &mut Row, v: u32)
-    requires { IsRow k.old }
-    ensures value { control_at k.new ≡ with_ir (control_at k.old) v }
-    ensures kept { IsRow k.new }
-{
-    k[1] = v % WORD_RANGE;
-}
-
-pub fn set_im(k: &mut Row, v: u32)
-    requires { IsRow k.old }
-    ensures value { control_at k.new ≡ with_im (control_at k.old) v }
-    ensures kept { IsRow k.new }
-{
-    k[2] = v % WORD_RANGE;
-}
-
-pub fn set_pending(k: &mut Row, v: u32)
-    requires { IsRow k.old }
-    ensures value { control_at k.new ≡ with_pending (control_at k.old) v }
-    ensures kept { IsRow k.new }
-{
-    k[3] = v % WORD_RANGE;
-}
-
-// PR(0) is always one.
-pub fn set_pr(k: &mut Row, v: u32)
-    requires { IsRow k.old }
-    ensures value { control_at k.new ≡ with_pr (control_at k.old) v }
-    ensures kept { IsRow k.new }
-{
-    let p = 128 + v % 128;
-    let f = mode_mask(p, k[6]);
-    k[4] = p;
-    k[8] = f;
-}
-
-pub fn set_ex(k: &mut Row, v: u32)
-    requires { IsRow k.old }
-    ensures value { control_at k.new ≡ with_ex (control_at k.old) v }
-    ensures kept { IsRow k.new }
-{
-    k[5] = v % 8;
-}
-
-pub fn set_enabled(k: &mut Row, e: bool)
-    requires { IsRow k.old }
-    ensures value { control_at k.new ≡ with_enabled (control_at k.old) e }
-    ensures kept { IsRow k.new }
-{
-    let x = flag(e);
-    k[7] = x;
-}
-
-// monitor mode := m.
-pub fn set_monitor(k: &mut Row, m: bool)
-    requires { IsRow k.old }
-    ensures value { control_at k.new ≡ with_monitor (control_at k.old) m }
-    ensures kept { IsRow k.new }
-{
-    let x = flag(m);
-    let f = mode_mask(k[4], x);
-    k[6] = x;
-    k[8] = f;
-}
-
-// The cell is forbidden, whatever the mode.
-pub fn is_forbidden(s: &[u32], k: &Row, i: u32) -> bool
-    ensures { result ≡ forbidden s.now (control_at k.now) i }
-{
-    let q = machine::key_at(s, i);
-    let p = pr(k);
-    machine::is_key_forbidden(p, q)
-}
-
-// Test Protection: task mode, and the cell is forbidden.
-pub fn is_violation(s: &[u32], k: &Row, i: u32) -> bool
-    ensures { result ≡ violation s.now (control_at k.now) i }
-{
-    if is_task(k) {
-        return is_forbidden(s, k, i);
+    pub fn control(&self) -> Control
+        ensures { result ≡ self.now }
+    {
+        Control {
+            ic: self.ic,
+            ir: self.ir,
+            im: self.im,
+            pending: self.pending,
+            pr: self.pr,
+            ex: self.ex,
+            monitor: self.monitor,
+            enabled: self.enabled,
+            reset: false,
+        }
     }
-    false
-}
 
-// Whether an instruction in a cell with the key q keeps the mode.
-pub fn keeps_mode(k: &Row, q: u32) -> bool
-    requires { IsRow k.now }
-    ensures { result ≡ keeps_mode (control_at k.now) q }
-{
-    machine::is_key_forbidden(k[8], q)
-}
-
-// Bits join the interrupt register.
-pub fn raise(k: &mut Row, bits: u32)
-    requires { IsRow k.old }
-    ensures value { control_at k.new ≡ raised (control_at k.old) bits }
-    ensures kept { IsRow k.new }
-{
-    let x = ir(k);
-    set_ir(k, x | bits);
-}
-
-// EX(22:23) := 0.
-pub fn clear_flags(k: &mut Row)
-    requires { IsRow k.old }
-    ensures value { control_at k.new ≡ flags_cleared (control_at k.old) }
-    ensures kept { IsRow k.new }
-{
-    let x = ex(k);
-    set_ex(k, x / 4 * 4);
-}
-
-// On an overflow EX(22) := IR(bit) := 1.
-pub fn note_overflow(k: &mut Row, over: u32, bit: u32)
-    requires { IsRow k.old }
-    ensures value { control_at k.new ≡ overflowed (control_at k.old) over bit }
-    ensures kept { IsRow k.new }
-{
-    if over == 0 {
-        return;
+    pub fn ic(&self) -> u32
+        ensures { result ≡ self.now.ic }
+    {
+        self.ic
     }
-    let x = ex(k);
-    set_ex(k, x / 4 * 4 + 2 + x % 2);
-    raise(k, bit);
-}
 
-// EX(23) := carry.
-pub fn note_carry(k: &mut Row, carry: u32)
-    requires { IsRow k.old }
-    ensures value { control_at k.new ≡ carry_set (control_at k.old) carry }
-    ensures kept { IsRow k.new }
-{
-    let x = ex(k);
-    set_ex(k, x / 2 * 2 + carry % 2);
+    pub fn ir(&self) -> u32
+        ensures { result ≡ self.now.ir }
+    {
+        self.ir
+    }
+
+    pub fn im(&self) -> u32
+        ensures { result ≡ self.now.im }
+    {
+        self.im
+    }
+
+    pub fn pending(&self) -> u32
+        ensures { result ≡ self.now.pending }
+    {
+        self.pending
+    }
+
+    pub fn pr(&self) -> u32
+        ensures { result ≡ self.now.pr }
+    {
+        self.pr
+    }
+
+    pub fn ex(&self) -> u32
+        ensures { result ≡ self.now.ex }
+    {
+        self.ex
+    }
+
+    // A row is that of a machine outside the reset state: for proofs, it does nothing.
+    pub fn outside_reset(&self)
+        ensures { self.now.reset ≡ false }
+    {
+        let _ = &self.ic;
+    }
+
+    // Test Mode.
+    pub fn is_task(&self) -> bool
+        ensures { result ≡ in_task self.now }
+    {
+        !self.monitor
+    }
+
+    pub fn is_enabled(&self) -> bool
+        ensures { result ≡ self.now.enabled }
+    {
+        self.enabled
+    }
+
+    pub fn set_ic(&mut self, v: u32)
+        ensures { self.new ≡ with_ic self.old v }
+    {
+        self.ic = v % WORD_RANGE;
+    }
+
+    pub fn set_ir(&mut self, v: u32)
+        ensures { self.new ≡ with_ir self.old v }
+    {
+        self.ir = v % WORD_RANGE;
+    }
+
+    pub fn set_im(&mut self, v: u32)
+        ensures { self.new ≡ with_im self.old v }
+    {
+        self.im = v % WORD_RANGE;
+    }
+
+    pub fn set_pending(&mut self, v: u32)
+        ensures { self.new ≡ with_pending self.old v }
+    {
+        self.pending = v % WORD_RANGE;
+    }
+
+    // PR(0) is always one.
+    pub fn set_pr(&mut self, v: u32)
+        ensures { self.new ≡ with_pr self.old v }
+    {
+        let p = 128 + v % 128;
+        self.pr = p;
+        self.mask = mode_mask(p, self.monitor);
+    }
+
+    pub fn set_ex(&mut self, v: u32)
+        ensures { self.new ≡ with_ex self.old v }
+    {
+        self.ex = v % 8;
+    }
+
+    pub fn set_enabled(&mut self, e: bool)
+        ensures { self.new ≡ with_enabled self.old e }
+    {
+        self.enabled = e;
+    }
+
+    // monitor mode := m.
+    pub fn set_monitor(&mut self, m: bool)
+        ensures { self.new ≡ with_monitor self.old m }
+    {
+        self.monitor = m;
+        self.mask = mode_mask(self.pr, m);
+    }
+
+    // The cell is forbidden, whatever the mode. The key is read first: with PR before it the register loop takes 79.4.
+    pub fn is_forbidden(&self, s: &[u32], i: u32) -> bool
+        ensures { result ≡ forbidden s.now self.now i }
+    {
+        let q = machine::key_at(s, i);
+        machine::is_key_forbidden(self.pr, q)
+    }
+
+    // Test Protection: task mode, and the cell is forbidden.
+    pub fn is_violation(&self, s: &[u32], i: u32) -> bool
+        ensures { result ≡ violation s.now self.now i }
+    {
+        self.is_task() && self.is_forbidden(s, i)
+    }
+
+    // Whether an instruction in a cell with the key q keeps the mode.
+    pub fn keeps_mode(&self, q: u32) -> bool
+        ensures { result ≡ keeps_mode self.now q }
+    {
+        machine::is_key_forbidden(self.mask, q)
+    }
+
+    // Bits join the interrupt register.
+    pub fn raise(&mut self, bits: u32)
+        ensures { self.new ≡ raised self.old bits }
+    {
+        self.set_ir(self.ir | bits);
+    }
+
+    // EX(22:23) := 0.
+    pub fn clear_flags(&mut self)
+        ensures { self.new ≡ flags_cleared self.old }
+    {
+        self.set_ex(self.ex / 4 * 4);
+    }
+
+    // On an overflow EX(22) := IR(bit) := 1.
+    pub fn note_overflow(&mut self, over: u32, bit: u32)
+        ensures { self.new ≡ overflowed self.old over bit }
+    {
+        if over == 0 {
+            return;
+        }
+        self.set_ex(self.ex / 4 * 4 + 2 + self.ex % 2);
+        self.raise(bit);
+    }
+
+    // EX(23) := carry.
+    pub fn note_carry(&mut self, carry: u32)
+        ensures { self.new ≡ carry_set self.old carry }
+    {
+        self.set_ex(self.ex / 2 * 2 + carry % 2);
+    }
 }

@@ -1,10 +1,9 @@
 -- The code's steps of a cycle as the definition has them. Assumes nothing.
-use Prim.Native.Nat.{ℕ, ◌/◌, ◌%◌, ◌≤◌}
+use Prim.Native.Nat.{ℕ, ◌/◌, ◌%◌}
 use native.Mathlib.Omega.{arith}
 use mathlib.Core.Path.{◌≡◌, refl, sym, ap, ◌∙◌}
 use mathlib.Core.Bool.{Bool, true, false, cond}
 use mathlib.Core.List.{List}
-use borrow.Author.Tests.{le-ltb}
 use Rattle.machine.specs.declared.Control.{Control}
 use Rattle.machine.specs.declared.Instruction.{Instruction}
 use Rattle.machine.specs.declared.Kind.TheVariants.{Exception}
@@ -70,9 +69,9 @@ unfolding concluded
 concluded_ending (ok m) = refl
 concluded_ending (fault f m) = refl
 
-pub cycle_fetch : (s : List ℕ) (c : Control) (h : Channel) (p : ℕ) (x : Ending Machine) → p ≡ line_of c → 24 ≤ p → x ≡ ending (fetch s c h) → concluded_by x ≡ cycle (machine s c h)
+pub cycle_fetch : (s : List ℕ) (c : Control) (h : Channel) (x : Ending Machine) → line_of c ≡ 24 → x ≡ ending (fetch s c h) → concluded_by x ≡ cycle (machine s c h)
 unfolding cycle
-cycle_fetch s c h p x e l g = rw (← e, le-ltb p 24 l, g) (sym (concluded_ending (fetch s c h)))
+cycle_fetch s c h x e g = rw (e, g) (sym (concluded_ending (fetch s c h)))
 
 -- the entry of an exception, with the channel as it was
 pub entered_with : {s : List ℕ} {c : Control} {h : Channel} {k : Computer} {x : CycleResult Machine} → computer s c ≡ k → entry Exception (connected h k) ≡ x

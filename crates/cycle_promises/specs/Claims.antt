@@ -6,7 +6,7 @@ use Rattle.machine.specs.declared.Fault.{Fault}
 use Rattle.machine.specs.declared.Kind.{Kind}
 use Rattle.machine.specs.declared.Kind.TheVariants.{Exception, Line}
 use Rattle.machine.specs.declared.Refusal.{Refusal}
-use Rattle.machine.specs.declared.Verdict.TheVariants.{Accepted, Rejected}
+use Rattle.machine.specs.Verdicts.{Accepted, Rejected}
 use Rattle.machine.specs.Store.{word, key}
 use Rattle.machine.specs.Records.{interrupt_number, return_address, interruption_program, start_address}
 use Rattle.machine.specs.Answers.{verdict_number}

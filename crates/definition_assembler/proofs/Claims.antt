@@ -8,11 +8,11 @@ use native.Mathlib.Omega.{arith}
 use borrow.Author.Tests.{lt-ltb, le-ltb, ltb-true, ltb-false}
 use lib.ListN.{length}
 use lib.Dec.{ltb}
+use Rattle.std.specs.Prelude.{Ok, Err}
 use Rattle.machine.specs.declared.Refusal.TheVariants.{LineGrammar, LineDepth, LineValue}
 use Rattle.machine.specs.Answers.{refusal_number}
 use Rattle.machine.specs.Format.{instruction_fields}
-use Rattle.definition_assembler.specs.declared.Assembled.{Assembled}
-use Rattle.definition_assembler.specs.declared.Assembled.TheVariants.{Refused, Word}
+use Rattle.definition_assembler.specs.Answers.{Assembled, Refused, Word}
 use Rattle.definition_assembler.specs.Grammar.{Digit, Sum, Product, Primary, term, plus, minus, factor, times, number, group, digit_bytes, sum_bytes, product_bytes, primary_bytes, sum_depth, sum_in_range, sum_value}
 use Rattle.definition_assembler.specs.Line.{Line, when, index_bytes, line_bytes, tree_evaluated, last_in_range, address_of, word_of, answer_with, line_answer}
 use Rattle.definition_assembler.specs.Assembling.{assembling}
@@ -41,12 +41,12 @@ answers l = at (ltb 16 (sum_depth l.address)) (good l) refl refl
 
 -- an answer's number, 0 for a word
 abbrev number_of : Assembled → ℕ
-number_of (Refused q) = refusal_number q
-number_of (Word v) = 0
+number_of (Err q) = refusal_number q
+number_of (Ok v) = 0
 
 abbrev word_of_lem : Assembled → ℕ
-word_of_lem (Refused q) = 0
-word_of_lem (Word v) = v
+word_of_lem (Err q) = 0
+word_of_lem (Ok v) = v
 
 differ : (m n : ℕ) (a b : Assembled) → number_of a ≡ m → number_of b ≡ n → (m ≡ n → ⊥) → a ≡ b → ⊥
 differ m n a b e f d g = d (sym e ∙ ap number_of g ∙ f)

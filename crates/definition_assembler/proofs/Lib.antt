@@ -1,6 +1,7 @@
 -- The laws of the reader, and the claims.
 pub mod Steps
 pub mod Digits
+pub mod Rest
 pub mod Back
 pub mod Trees
 pub mod Sound

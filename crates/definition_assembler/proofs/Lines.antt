@@ -12,9 +12,7 @@ use lib.Seq.{drop-length}
 use lib.Dec.{ltb, eqb}
 use lib.IntN.{pos}
 use Rattle.machine.specs.declared.Refusal.TheVariants.{LineGrammar}
-use Rattle.definition_assembler.specs.declared.Address.{Address}
-use Rattle.definition_assembler.specs.declared.Assembled.{Assembled}
-use Rattle.definition_assembler.specs.declared.Assembled.TheVariants.{Refused}
+use Rattle.definition_assembler.specs.Answers.{Address, Assembled, Refused}
 use Rattle.definition_assembler.specs.Letters.{first_letter, second_letter}
 use Rattle.definition_assembler.specs.Grammar.{Digit, Sum, Product, Primary, term, plus, minus, factor, times, number, group, digit_byte, digit_bytes, decimal, in_range, sum_bytes, sum_depth, sum_in_range, sum_value, product_depth, product_in_range, product_value, primary_depth, primary_in_range, primary_value}
 use Rattle.definition_assembler.specs.Line.{Line, when, index_bytes, line_bytes, Evaluated, tree_evaluated, address_of, answer_with, line_answer}

@@ -11,7 +11,7 @@ use lib.Dec.{ltb}
 use lib.IntN.{ℤ, pos, negsuc, ◌-ℤ◌}
 use Rattle.machine.specs.declared.Instruction.{Instruction}
 use Rattle.machine.specs.Format.{instruction_fields}
-use Rattle.definition_assembler.specs.declared.Address.TheVariants.{Displacement}
+use Rattle.definition_assembler.specs.Answers.{Displacement}
 use Rattle.definition_assembler.specs.Grammar.{Digit, Sum, Primary, term, minus, factor, number, digit_bytes, decimal, in_range, sum_bytes, sum_value, sum_in_range, sum_depth}
 use Rattle.definition_assembler.specs.Line.{Line, when, index_bytes, line_bytes, tree_evaluated, last_in_range, displacement, address_of, word_of}
 

@@ -1,9 +1,7 @@
 -- The answer of the assembler, for every line of bytes. Assumes nothing.
 use Rattle.std.specs.Prelude.{ℕ, suc, ◌+◌, ◌*◌, ◌-◌, max, Bool, true, false, cond, ◌&&◌, List, [], ◌∷◌, length, ltb, eqb, ℤ, pos, ◌+ℤ◌, ◌-ℤ◌, ◌*ℤ◌}
 use Rattle.machine.specs.declared.Refusal.TheVariants.{LineGrammar}
-use Rattle.definition_assembler.specs.declared.Address.{Address}
-use Rattle.definition_assembler.specs.declared.Assembled.{Assembled}
-use Rattle.definition_assembler.specs.declared.Assembled.TheVariants.{Refused}
+use Rattle.definition_assembler.specs.Answers.{Address, Assembled, Refused}
 use Rattle.definition_assembler.specs.Letters.{ascii}
 use Rattle.definition_assembler.specs.Grammar.{in_range}
 use Rattle.definition_assembler.specs.Line.{Evaluated, address_of, answer_with}

@@ -3,7 +3,7 @@ use Rattle.std.specs.Prelude.{ℕ, ◌≤◌, ◌<◌, ◌≡◌, true, false, �
 use Rattle.machine.specs.declared.Instruction.{Instruction}
 use Rattle.machine.specs.declared.Refusal.TheVariants.{LineGrammar, LineDepth, LineValue}
 use Rattle.machine.specs.Format.{instruction_fields}
-use Rattle.definition_assembler.specs.declared.Assembled.TheVariants.{Refused, Word}
+use Rattle.definition_assembler.specs.Answers.{Refused, Word}
 use Rattle.definition_assembler.specs.Grammar.{sum_value, sum_in_range, sum_depth}
 use Rattle.definition_assembler.specs.Line.{Line, line_bytes, last_in_range, displacement, fields}
 use Rattle.definition_assembler.specs.Assembling.{assembling}

@@ -5,10 +5,7 @@
 use Rattle.std.specs.Prelude.{ℕ, zero, suc, ◌+◌, ◌*◌, ◌-◌, ◌<◌, Bool, true, false, cond, ◌&&◌, List, [], ◌∷◌, ◌++◌, ltb, ℤ, pos, negsuc}
 use Rattle.machine.specs.declared.Instruction.{Instruction}
 use Rattle.machine.specs.declared.Refusal.TheVariants.{LineDepth, LineValue}
-use Rattle.definition_assembler.specs.declared.Address.{Address}
-use Rattle.definition_assembler.specs.declared.Address.TheVariants.{AddressRefused, Displacement}
-use Rattle.definition_assembler.specs.declared.Assembled.{Assembled}
-use Rattle.definition_assembler.specs.declared.Assembled.TheVariants.{Refused, Word}
+use Rattle.definition_assembler.specs.Answers.{Address, AddressRefused, Displacement, Assembled, Refused, Word}
 use Rattle.definition_assembler.specs.Letters.{ascii, first_letter, second_letter}
 use Rattle.definition_assembler.specs.Grammar.{Sum, sum_bytes, sum_value, sum_in_range, sum_depth}
 

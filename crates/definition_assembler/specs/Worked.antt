@@ -4,7 +4,7 @@ use Prim.Native.Char.{code}
 use Prim.Native.String.{String, char_at, len}
 use Rattle.machine.specs.declared.Refusal.TheVariants.{LineGrammar, LineDepth, LineValue}
 use Rattle.definition_instructions.specs.Codes.{codes, lookup}
-use Rattle.definition_assembler.specs.declared.Assembled.TheVariants.{Refused, Word}
+use Rattle.definition_assembler.specs.Answers.{Refused, Word}
 use Rattle.definition_assembler.specs.Letters.{letters, first_letter, second_letter}
 use Rattle.definition_assembler.specs.Grammar.{in_range}
 use Rattle.definition_assembler.specs.Line.{last_in_range, displacement, address_of, word_of, answer_with}

@@ -9,7 +9,7 @@ use lib.Dec.{ltb}
 use lib.ListN.{length}
 use borrow.Author.Tests.{lt-ltb, le-ltb, le-leb, ltb-true, ltb-false, leb-true}
 use Rattle.machine.specs.declared.Control.{Control}
-use Rattle.machine.specs.declared.Verdict.TheVariants.{Accepted}
+use Rattle.machine.specs.Verdicts.{Accepted}
 use Rattle.machine.specs.Store.{put_word, put_key}
 use Rattle.machine.specs.Fields.{in_task, with_ic, with_ir, with_im, with_pending, with_pr, with_ex, with_enabled}
 use Rattle.machine.specs.Records.{reset_control}

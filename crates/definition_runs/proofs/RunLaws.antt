@@ -5,8 +5,7 @@ use mathlib.Core.Path.{◌≡◌, refl}
 use mathlib.Core.Bool.{Bool, true, false}
 use Rattle.machine.specs.declared.Kind.{Kind}
 use Rattle.machine.specs.declared.Outcome.TheVariants.{Spent, Interrupted, Reset}
-use Rattle.machine.specs.declared.Answer.{Answer}
-use Rattle.machine.specs.declared.Answer.TheVariants.{Refused, Ended}
+use Rattle.machine.specs.Verdicts.{Answer, Refused, Ended}
 use Rattle.definition_runs.specs.GenericRun.{CycleResult, instruction, entry, RunResult, ended, after, run}
 
 module _ {M : Type 0} (in_reset : M → Bool) (cycle : M → CycleResult M) where

@@ -4,8 +4,7 @@
 use Rattle.std.specs.Prelude.{ℕ, ◌/◌, false, cond, List}
 use Rattle.machine.specs.declared.Control.{Control}
 use Rattle.machine.specs.declared.Record.{Record}
-use Rattle.machine.specs.declared.Verdict.{Verdict}
-use Rattle.machine.specs.declared.Verdict.TheVariants.{Accepted, Rejected}
+use Rattle.machine.specs.Verdicts.{Verdict, Accepted, Rejected}
 use Rattle.machine.specs.Store.{word, even_address}
 use Rattle.machine.specs.Records.{start_address}
 use Rattle.acceptance.specs.Accept.{judge_machine, judge_autoload}

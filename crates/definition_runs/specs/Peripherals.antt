@@ -6,8 +6,7 @@ use Rattle.machine.specs.declared.Control.{Control}
 use Rattle.machine.specs.declared.Record.{Record}
 use Rattle.machine.specs.declared.Kind.TheVariants.{Exception}
 use Rattle.machine.specs.declared.Outcome.TheVariants.{Spent, Interrupted, Reset}
-use Rattle.machine.specs.declared.Answer.TheVariants.{Ended}
-use Rattle.machine.specs.declared.Verdict.TheVariants.{Accepted}
+use Rattle.machine.specs.Verdicts.{Ended, Accepted}
 use Rattle.machine.specs.Answers.{verdict_number}
 use Rattle.definition_instructions.specs.Machine.{Channel, Machine, machine}
 use Rattle.definition_instructions.specs.Channel.{lent}

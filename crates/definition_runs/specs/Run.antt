@@ -1,7 +1,7 @@
 -- The run of the RC 4000: lines, budget, machine (document 01, "A run").
 -- Assumes nothing.
 use Rattle.std.specs.Prelude.{ℕ, Bool, List}
-use Rattle.machine.specs.declared.Verdict.{Verdict}
+use Rattle.machine.specs.Verdicts.{Verdict}
 use Rattle.machine.specs.Fields.{raised}
 use Rattle.machine.specs.Records.{timer_off}
 use Rattle.acceptance.specs.Accept.{judge_machine, devices_fit, judge_run}

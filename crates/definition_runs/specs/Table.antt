@@ -6,8 +6,7 @@ use Rattle.machine.specs.declared.Record.{Record}
 use Rattle.machine.specs.declared.Kind.TheVariants.{Exception, Line}
 use Rattle.machine.specs.declared.Outcome.TheVariants.{Spent, Interrupted, Reset}
 use Rattle.machine.specs.declared.Refusal.TheVariants.{ControlField}
-use Rattle.machine.specs.declared.Verdict.TheVariants.{Accepted, Rejected}
-use Rattle.machine.specs.declared.Answer.TheVariants.{Ended}
+use Rattle.machine.specs.Verdicts.{Accepted, Rejected, Ended}
 use Rattle.machine.specs.Store.{word, absent}
 use Rattle.machine.specs.Records.{timer_off}
 use Rattle.machine.specs.Format.{instruction_fields}

@@ -5,7 +5,7 @@ use Rattle.machine.specs.declared.Control.{Control}
 use Rattle.machine.specs.declared.Record.{Record}
 use Rattle.machine.specs.declared.Kind.TheVariants.{Exception, Line}
 use Rattle.machine.specs.declared.Outcome.TheVariants.{Spent, Interrupted, Reset}
-use Rattle.machine.specs.declared.Verdict.TheVariants.{Accepted, Rejected}
+use Rattle.machine.specs.Verdicts.{Accepted, Rejected}
 use Rattle.machine.specs.declared.Refusal.TheVariants.{TimerField}
 use Rattle.definition_instructions.specs.Channel.{lent}
 use Rattle.definition_runs.specs.GenericRun.{refused_number, ended}

@@ -9,8 +9,7 @@ use borrow.Author.Tests.{le-leb, eq-eqb, ne_eqb, ltb-true, ltb-false, leb-true, 
 use lib.ListN.{length}
 use lib.Dec.{ltb, leb, eqb}
 use Rattle.machine.specs.declared.Refusal.TheVariants.{StoreSize, ControlField, TimerField, TapeEnds, RecordOrder}
-use Rattle.machine.specs.declared.Verdict.{Verdict}
-use Rattle.machine.specs.declared.Verdict.TheVariants.{Accepted, Rejected}
+use Rattle.machine.specs.Verdicts.{Verdict, Accepted, Rejected}
 use Rattle.acceptance.specs.Accept.{size_fits, cells_fit, timer_fits, judge_store, judge_timer}
 use Rattle.acceptance.proofs.Tests.{refused, passed, both}
 use Rattle.definition_tape.specs.Layout.{length_of, kind_of, payload_of, rest_of, records_of, first_cell, cell_count, block_cells, timer_of}

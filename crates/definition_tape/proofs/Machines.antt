@@ -8,7 +8,7 @@ use lib.ListN.{length}
 use lib.Dec.{leb, ltb}
 use Rattle.machine.specs.declared.Record.{Record}
 use Rattle.machine.specs.declared.Refusal.TheVariants.{StoreSize, CellValue, ControlField}
-use Rattle.machine.specs.declared.Verdict.TheVariants.{Accepted, Rejected}
+use Rattle.machine.specs.Verdicts.{Accepted, Rejected}
 use Rattle.acceptance.specs.Accept.{size_fits, cells_fit, control_fits, timer_fits, judge_registers, judge_machine}
 use Rattle.acceptance.proofs.Tests.{passed, neither, passed_timer}
 

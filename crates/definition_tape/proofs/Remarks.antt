@@ -9,9 +9,8 @@ use borrow.Author.Tests.{eqb-true, eqb-false}
 use lib.ListN.{length, take, drop}
 use lib.Seq.{take-nil}
 use lib.Dec.{eqb}
-use Rattle.machine.specs.declared.Verdict.{Verdict}
-use Rattle.machine.specs.declared.Verdict.TheVariants.{Accepted, Rejected}
-use Rattle.definition_tape.specs.declared.Span.{Span}
+use Rattle.machine.specs.Verdicts.{Verdict, Accepted, Rejected}
+use Rattle.definition_tape.specs.Remark.{Span}
 use Rattle.definition_tape.specs.Layout.{length_of, kind_of, payload_of, rest_of, records_of, first_of, Whole}
 use Rattle.definition_tape.specs.Remark.{judge_reading, no_span, span_at, span_by, remark_span, text_by, remark_text}
 use Rattle.definition_tape.proofs.Records.{length_rest}

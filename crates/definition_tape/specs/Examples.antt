@@ -8,8 +8,7 @@ use Rattle.machine.specs.Records.{fresh_control, timer_off, fresh_record}
 use Rattle.machine.specs.declared.Timer.{Timer}
 use Rattle.machine.specs.declared.Record.{Record}
 use Rattle.machine.specs.declared.Refusal.TheVariants.{CellValue, ControlField, TimerField, TapeEnds, RecordKind, RecordOrder, WrittenLength, BufferLength, RemarkLength}
-use Rattle.machine.specs.declared.Verdict.{Verdict}
-use Rattle.machine.specs.declared.Verdict.TheVariants.{Accepted, Rejected}
+use Rattle.machine.specs.Verdicts.{Verdict, Accepted, Rejected}
 use Rattle.acceptance.specs.Accept.{size_fits, cells_fit, state_fits, control_fits, timer_fits, judge_store, judge_registers, judge_machine}
 use Rattle.definition_tape.specs.Layout.{length_of, kind_of, payload_of, rest_of, records_within, records_of, first_of, cells_from, block_cells, control_of, timer_of, control_record_of}
 use Rattle.definition_tape.specs.Judge.{kind_known, in_order, length_fits, judge_block, control_good, judge_control, judge_payload, judge_record, names, times_named, unnamed_from, judge_records, judge_tape}

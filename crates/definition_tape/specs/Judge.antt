@@ -2,8 +2,7 @@
 -- Assumes nothing.
 use Rattle.std.specs.Prelude.{ℕ, zero, suc, ◌+◌, ◌%◌, Bool, true, false, not, cond, List, [], ◌∷◌, length, eqb, ltb, leb}
 use Rattle.machine.specs.declared.Refusal.TheVariants.{ControlField, TapeEnds, RecordKind, RecordLength, BlockPlace, BlockCell, RecordOrder, TapeLength, BlockOverlap}
-use Rattle.machine.specs.declared.Verdict.{Verdict}
-use Rattle.machine.specs.declared.Verdict.TheVariants.{Accepted, Rejected}
+use Rattle.machine.specs.Verdicts.{Verdict, Accepted, Rejected}
 use Rattle.acceptance.specs.Accept.{cells_fit, control_fits, judge_timer}
 use Rattle.definition_tape.specs.Layout.{length_of, kind_of, payload_of, records_of, first_cell, cell_count, block_cells, flags_of, zero_byte, control_of, timer_of}
 

@@ -3,8 +3,7 @@
 use Rattle.std.specs.Prelude.{ℕ, cond, List, [], ◌∷◌, ◌++◌, length, take, drop, replicate, eqb}
 use Rattle.machine.specs.declared.Record.{Record}
 use Rattle.machine.specs.declared.State.{State}
-use Rattle.machine.specs.declared.Verdict.{Verdict}
-use Rattle.machine.specs.declared.Verdict.TheVariants.{Accepted, Rejected}
+use Rattle.machine.specs.Verdicts.{Verdict, Accepted, Rejected}
 use Rattle.acceptance.specs.Accept.{judge_store}
 use Rattle.definition_tape.specs.Layout.{kind_of, payload_of, records_of, first_of, first_cell, block_cells, control_record_of}
 use Rattle.definition_tape.specs.Judge.{judge_tape}

@@ -1,18 +1,25 @@
 -- The first remark of a tape that loads into a store of n cells (document 01, "Load tape").
 -- Assumes nothing.
-use Rattle.std.specs.Prelude.{ℕ, ◌+◌, ◌-◌, true, false, cond, List, [], length, eqb}
+use Rattle.std.specs.Prelude.{ℕ, ◌+◌, ◌-◌, Bool, true, false, cond, List, [], length, eqb, Option, Some, None, Result, Ok, Err}
+use Rattle.std.specs.declared.ops.Range.{Range}
 use Rattle.machine.specs.Answers.{refusal_number}
+use Rattle.machine.specs.declared.Refusal.{Refusal}
 use Rattle.machine.specs.declared.Refusal.TheVariants.{StoreSize}
-use Rattle.machine.specs.declared.Verdict.{Verdict}
-use Rattle.machine.specs.declared.Verdict.TheVariants.{Accepted, Rejected}
+use Rattle.machine.specs.Verdicts.{Verdict, Accepted, Rejected}
 use Rattle.acceptance.specs.Accept.{size_fits}
-use Rattle.definition_tape.specs.declared.Span.{Span}
 use Rattle.definition_tape.specs.Layout.{length_of, payload_of, records_of, first_of}
 use Rattle.definition_tape.specs.Judge.{judge_tape}
 
 -- 1 on the number of cells, then the tape (docs/DECISIONS.md E5)
 unfoldable pub judge_reading : List ℕ → ℕ → Verdict
 judge_reading t n = cond (size_fits n) (judge_tape n t) (Rejected StoreSize)
+
+-- where a remark's text starts and ends on the tape, whether there is one, and the refusal's number, 0 for none
+pub record Span : Type 0 where
+  pub start : ℕ
+  pub end : ℕ
+  pub found : Bool
+  pub refusal : ℕ
 
 abbrev pub no_span : ℕ → Span
 no_span r = record { start = 0; end = 0; found = false; refusal = r }
@@ -28,6 +35,12 @@ span_by Accepted t m = cond (eqb (length m) 0) (no_span 0) (span_at t m)
 -- start and end of the first remark's text, whether there is one, and the refusal's number, 0 for none
 unfoldable pub remark_span : List ℕ → ℕ → Span
 remark_span t n = span_by (judge_reading t n) t (first_of 4 (records_of t))
+
+-- what a reader hands back: the span as a range of places, none, or the refusal
+abbrev pub span_read : Result (Option (Range ℕ)) Refusal → Span
+span_read (Ok (Some x)) = record { start = x.start; end = x.end; found = true; refusal = 0 }
+span_read (Ok None) = no_span 0
+span_read (Err q) = no_span (refusal_number q)
 
 -- the text, empty for none and on a refusal
 abbrev pub text_by : Verdict → List ℕ → List ℕ

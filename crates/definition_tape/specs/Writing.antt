@@ -1,22 +1,26 @@
 -- Who is refused a tape, for what, and what the buffer holds after a call (document 02, E2 and E6).
 -- Assumes nothing.
-use Rattle.std.specs.Prelude.{ℕ, ◌≤◌, ◌≡◌, Bool, true, false, cond, List, ◌++◌, length, drop, leb}
+use Rattle.std.specs.Prelude.{ℕ, ◌≤◌, ◌≡◌, Bool, true, false, cond, List, ◌++◌, length, drop, leb, Option as Given, Some, None, Result, Ok, Err}
+use denote.Ref.{Bor}
 use Rattle.std.proofs.Math.Option.{Option, none, some}
 use Rattle.machine.specs.declared.Record.{Record}
 use Rattle.machine.specs.declared.Refusal.{Refusal}
 use Rattle.machine.specs.declared.Refusal.TheVariants.{RemarkLength, WrittenLength, BufferLength}
-use Rattle.machine.specs.declared.Verdict.{Verdict}
-use Rattle.machine.specs.declared.Verdict.TheVariants.{Accepted, Rejected}
+use Rattle.machine.specs.Verdicts.{Verdict, Accepted, Rejected}
 use Rattle.acceptance.specs.Accept.{judge_machine}
 use Rattle.definition_tape.specs.Load.{judge_then}
 use Rattle.definition_tape.specs.Judge.{most_bytes}
-use Rattle.definition_tape.specs.declared.Written.{Written}
 use Rattle.definition_tape.specs.Bytes.{tape_of}
 
 -- the remark that a flag and a text stand for: none where the flag is no, else the text
 abbrev pub remark_of : Bool → List ℕ → Option (List ℕ)
 remark_of true r = some r
 remark_of false r = none
+
+-- the remark that a writer is lent
+abbrev pub remark_lent : Given (Bor (List ℕ)) → Option (List ℕ)
+remark_lent (Some r) = some r.now
+remark_lent None = none
 
 -- 14: a remark over 255 bytes
 unfoldable pub remark_fits : Option (List ℕ) → Bool
@@ -41,6 +45,11 @@ judge_parts s c m n = cond (remark_fits m) (judge_size (length (tape_of s c m)) 
 unfoldable pub judge_writing : List ℕ → Record → Option (List ℕ) → ℕ → Verdict
 judge_writing s c m n = judge_then (judge_machine s c) (judge_parts s c m n)
 
+-- how many bytes the tape of a machine has, 0 on a refusal, and the verdict
+pub record Written : Type 0 where
+  pub length : ℕ
+  pub verdict : Verdict
+
 pub record Writing : Type 0 where
   pub bytes : List ℕ
   pub answer : Written
@@ -48,6 +57,11 @@ pub record Writing : Type 0 where
 -- refused: the length is 0
 abbrev pub refused_writing : Refusal → Written
 refused_writing q = record { length = 0; verdict = Rejected q }
+
+-- what a writer hands back: the length, or the refusal
+abbrev pub written : Result ℕ Refusal → Written
+written (Ok n) = record { length = n; verdict = Accepted }
+written (Err q) = refused_writing q
 
 -- the tape t into a buffer: its first bytes are the tape, the others stay; refused, all stay
 abbrev pub writing_by : Verdict → List ℕ → List ℕ → Writing

@@ -1,9 +1,8 @@
 // The instructions that reach devices, IO and AW (14.8, chapter 8): each function does the micro-operations of its meaning, in their order.
-#![tactic(auto)]
+#![tactic(auto, unfolding(timer_row::specs::Row::passing, timer_row::specs::Row::with_passed, definition_times::specs::Times::device_time, definition_times::specs::Times::io_time, definition_instructions::specs::Codes::execute_device, definition_instructions::specs::MicroOps::execute_device_operation, definition_instructions::specs::Meaning::device_meaning, definition_instructions::specs::Meaning::commanded, definition_instructions::specs::MicroOps::device_steps, definition_instructions::specs::MicroOps::device_step, definition_instructions::specs::MicroOps::monitor_step, definition_instructions::specs::MicroOps::micro_step, definition_instructions::specs::Meaning::rejection, definition_instructions::specs::Channel::shifted_in, definition_instructions::specs::Channel::device_buffer, definition_instructions::specs::Machine::reset_system))]
 
 ghost use Rattle.std.specs.Prelude.{◌≡◌, true, ◌/◌, ◌<◌};
 ghost use Rattle.registers.specs.Reg.{word_range};
-ghost use Rattle.control_row.specs.Row.{control_at, IsRow};
 ghost use Rattle.control_row.specs.Endings.{ending, ending_of, ending_with};
 ghost use Rattle.machine.specs.Fields.{flags_cleared};
 ghost use Rattle.machine.specs.Store.{put_word, put_key};
@@ -12,9 +11,9 @@ ghost use Rattle.definition_instructions.specs.Channel.{read_from, shifted_in, f
 ghost use Rattle.definition_instructions.specs.MicroOps.{device_steps};
 ghost use Rattle.definition_instructions.specs.Meaning.{IO, AW, rejection, autoloading};
 ghost use Rattle.definition_instructions.specs.Codes.{execute_device};
-ghost use Rattle.channel_row.specs.Row.{channel_at, IsChannel};
+ghost use Rattle.channel_row.specs.Row.{channel_at, Same};
 ghost use Rattle.definition_times.specs.Times.{device_time};
-ghost use Rattle.timer_row.specs.Row.{clock_at, passing, clock_after, IsClock};
+ghost use Rattle.timer_row.specs.Row.{passing, clock_after};
 
 use channel_row::Channel;
 use control_row::{End, Row};
@@ -31,53 +30,40 @@ fn rejection(rejected: bool) -> u32
 }
 
 // Input/Output. Each way through it adds its own time; one that ends in a fault adds none.
-#[tactic(auto, unfolding(timer_row::specs::Row::passing, timer_row::specs::Row::with_passed, definition_times::specs::Times::device_time, definition_times::specs::Times::io_time, definition_instructions::specs::Codes::execute_device, definition_instructions::specs::MicroOps::execute_device_operation, definition_instructions::specs::Meaning::device_meaning, definition_instructions::specs::Meaning::commanded, definition_instructions::specs::MicroOps::device_steps, definition_instructions::specs::MicroOps::device_step, definition_instructions::specs::MicroOps::monitor_step, definition_instructions::specs::MicroOps::micro_step))]
-pub fn io(
-    s: &mut [u32],
-    k: &mut Row,
-    t: &mut Clock,
-    h: &mut Channel,
-    characters: &[u8],
-    typing: &mut [u8],
-    w: u32,
-    sb: u32,
-) -> End
-    requires { IsRow k.old × IsClock t.old × IsChannel h.old characters.now typing.old }
-    ensures value { ending_with (channel_at h.new characters.now typing.new) (ending_of result s.new (control_at k.new)) ≡ ending (execute_device IO w sb (machine s.old (control_at k.old) (channel_at h.old characters.now typing.old))) }
-    ensures kept { IsRow k.new }
-    ensures channel { IsChannel h.new characters.now typing.new }
-    ensures time { clock_after result (clock_at t.new) ≡ clock_after result (passing (device_time IO sb (machine s.old (control_at k.old) (channel_at h.old characters.now typing.old))) (clock_at t.old)) }
-    ensures clock { IsClock t.new }
+pub fn io(s: &mut [u32], k: &mut Row, t: &mut Clock, h: &mut Channel, w: u32, sb: u32) -> End
+    ensures value { ending_with (channel_at h.new) (ending_of result s.new k.new) ≡ ending (execute_device IO w sb (machine s.old k.old (channel_at h.old))) }
+    ensures same { Same h.old h.new }
+    ensures time { clock_after result t.new ≡ clock_after result (passing (device_time IO sb (machine s.old k.old (channel_at h.old))) t.old) }
 {
-    if control_row::is_task(k) {
+    if k.is_task() {
         return End::Faulted;
     }
-    let rejected = channel_row::is_disconnected(h, characters, typing, sb / 64, sb % 4);
+    let rejected = h.is_disconnected(sb / 64, sb % 4);
     let r = rejection(rejected);
-    let x = control_row::ex(k);
-    control_row::set_ex(k, x / 4 * 4 + r);
+    let x = k.ex();
+    k.set_ex(x / 4 * 4 + r);
     if rejected {
-        timer_row::advance(t, 40);
+        t.advance(40);
         return End::Done;
     }
     if sb % 4 == 0 {
-        let v = channel_row::buffer_at(h, characters, typing, sb / 64);
+        let v = h.buffer(sb / 64);
         machine::put_word(s, w, v);
-        timer_row::advance(t, 70);
+        t.advance(70);
         return End::Done;
     }
     if sb % 4 == 1 {
-        timer_row::advance(t, 65);
+        t.advance(65);
         return End::Done;
     }
     if sb % 4 == 2 {
-        channel_row::read(h, characters, typing, sb / 64);
-        timer_row::advance(t, 50);
+        h.read(sb / 64);
+        t.advance(50);
         return End::Done;
     }
     let v = machine::word_at(s, w);
-    channel_row::write(h, characters, typing, sb / 64, v);
-    timer_row::advance(t, 65);
+    h.write(sb / 64, v);
+    t.advance(65);
     End::Done
 }
 
@@ -91,17 +77,17 @@ fn shift_in(ar: u32, sb: u32) -> u32
 }
 
 // Start Input: the next character is read, and shifted into AR.
-fn input(k: &mut Row, h: &mut Channel, characters: &[u8], typing: &[u8], ar: u32) -> u32
-    requires { (ar < word_range) × IsRow k.old × IsChannel h.old characters.now typing.now }
-    ensures register { result ≡ shifted_in ar (channel_at h.new characters.now typing.now).reader }
+fn input(k: &mut Row, h: &mut Channel, ar: u32) -> u32
+    requires { ar < word_range }
+    ensures register { result ≡ shifted_in ar (channel_at h.new).reader }
     ensures bound { result < word_range }
-    ensures control { control_at k.new ≡ flags_cleared (control_at k.old) }
-    ensures channel { channel_at h.new characters.now typing.now ≡ read_from 0 (channel_at h.old characters.now typing.now) }
-    ensures kept { IsRow k.new × IsChannel h.new characters.now typing.now }
+    ensures control { k.new ≡ flags_cleared k.old }
+    ensures channel { channel_at h.new ≡ read_from 0 (channel_at h.old) }
+    ensures same { Same h.old h.new }
 {
-    channel_row::read(h, characters, typing, 0);
-    control_row::clear_flags(k);
-    let c = channel_row::buffer_at(h, characters, typing, 0);
+    h.read(0);
+    k.clear_flags();
+    let c = h.buffer(0);
     shift_in(ar, c)
 }
 
@@ -114,23 +100,15 @@ fn load(s: &mut [u32], sb: u32, ar: u32)
 }
 
 // Autoload Word where four characters are left: they go into the word addressed.
-pub fn autoload(
-    s: &mut [u32],
-    k: &mut Row,
-    h: &mut Channel,
-    characters: &[u8],
-    typing: &[u8],
-    sb: u32,
-) -> End
-    requires { (four_left (channel_at h.old characters.now typing.now).characters ≡ true) × IsRow k.old × IsChannel h.old characters.now typing.now }
-    ensures value { ending_with (channel_at h.new characters.now typing.now) (ending_of result s.new (control_at k.new)) ≡ ending (device_steps 0 (autoloading sb (channel_at h.old characters.now typing.now).characters) (machine s.old (control_at k.old) (channel_at h.old characters.now typing.now))) }
-    ensures kept { IsRow k.new }
-    ensures channel { IsChannel h.new characters.now typing.now }
+pub fn autoload(s: &mut [u32], k: &mut Row, h: &mut Channel, sb: u32) -> End
+    requires { four_left (channel_at h.old).characters ≡ true }
+    ensures value { ending_with (channel_at h.new) (ending_of result s.new k.new) ≡ ending (device_steps 0 (autoloading sb (channel_at h.old).characters) (machine s.old k.old (channel_at h.old))) }
+    ensures same { Same h.old h.new }
 {
-    let a = input(k, h, characters, typing, 0);
-    let b = input(k, h, characters, typing, a);
-    let c = input(k, h, characters, typing, b);
-    let v = input(k, h, characters, typing, c);
+    let a = input(k, h, 0);
+    let b = input(k, h, a);
+    let c = input(k, h, b);
+    let v = input(k, h, c);
     if machine::is_absent(s, sb) {
         return End::Faulted;
     }
@@ -139,27 +117,17 @@ pub fn autoload(
 }
 
 // Autoload Word.
-pub fn aw(
-    s: &mut [u32],
-    k: &mut Row,
-    h: &mut Channel,
-    characters: &[u8],
-    typing: &[u8],
-    w: u32,
-    sb: u32,
-) -> End
-    requires { IsRow k.old × IsChannel h.old characters.now typing.now }
-    ensures value { ending_with (channel_at h.new characters.now typing.now) (ending_of result s.new (control_at k.new)) ≡ ending (execute_device AW w sb (machine s.old (control_at k.old) (channel_at h.old characters.now typing.now))) }
-    ensures kept { IsRow k.new }
-    ensures channel { IsChannel h.new characters.now typing.now }
+pub fn aw(s: &mut [u32], k: &mut Row, h: &mut Channel, w: u32, sb: u32) -> End
+    ensures value { ending_with (channel_at h.new) (ending_of result s.new k.new) ≡ ending (execute_device AW w sb (machine s.old k.old (channel_at h.old))) }
+    ensures same { Same h.old h.new }
 {
-    if control_row::is_task(k) {
+    if k.is_task() {
         return End::Faulted;
     }
-    if channel_row::has_four(h, characters, typing) {
-        return autoload(s, k, h, characters, typing, sb);
+    if h.has_four() {
+        return autoload(s, k, h, sb);
     }
-    let n = control_row::ic(k);
+    let n = k.ic();
     machine::put_word(s, Control::RETURN_ADDRESS / 2, n);
     End::Reset
 }

@@ -1,5 +1,5 @@
 -- A code that the table of A.2 lacks. Assumes nothing.
-use Prim.Native.Nat.{ℕ, zero, suc, ◌+◌, ◌≤◌, ◌<◌}
+use Prim.Native.Nat.{ℕ, ◌≤◌, ◌<◌}
 use native.Mathlib.Omega.{arith}
 use mathlib.Core.Path.{◌≡◌, refl}
 use mathlib.Core.Bool.{Bool, true, false, cond}
@@ -13,18 +13,6 @@ use Rattle.definition_instructions.specs.MicroOps.{execute_operation}
 use Rattle.definition_instructions.specs.Meaning.{None, meaning}
 use Rattle.definition_instructions.specs.Codes.{internal, Code, codes, lookup, execute, execute_code}
 use Rattle.control_row.specs.Endings.{faulted, ending}
-
--- x is none of a, .., a + k - 1: what the last arm of a match is told
-abbrev pub NoneFrom : ℕ → ℕ → ℕ → Type 0
-NoneFrom x a zero = Unit {0}
-NoneFrom x a (suc k) = NoneFrom x a k × (x ≡ a + k → ⊥)
-
-pub none_from : (x a k : ℕ) → a ≤ x → NoneFrom x a k → a + k ≤ x
-none_from x a zero l h = omega arith
-none_from x a (suc k) l h = let m : a + k ≤ x = none_from x a k l h.0 in let d : x ≡ a + k → ⊥ = h.1 in omega arith
-
-pub no_low_code : (f : ℕ) → f < 32 → NoneFrom f 0 32 → ⊥
-no_low_code f l h = let m : 0 + 32 ≤ f = none_from f 0 32 (omega arith) h in omega arith
 
 -- every number of the list is below n
 unfoldable below : ℕ → List Code → Bool

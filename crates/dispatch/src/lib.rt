@@ -1,19 +1,18 @@
 // The operation by its numeric code (A.2), with its time (A.3). Two halves: with an arm for each of 58 codes in one `match` the compiler takes every arm for rare, and
 // leaves the instructions as calls.
-#![tactic(auto)]
+#![tactic(auto, using(crate::proofs::Lifted::with_channel), unfolding(timer_row::specs::Row::passing, timer_row::specs::Row::with_passed, definition_times::specs::Times::execution_time, definition_times::specs::Times::operation_time, definition_times::specs::Times::device_time, definition_instructions::specs::Codes::execute_code, definition_instructions::specs::Codes::lookup, definition_instructions::specs::Codes::codes))]
 
 ghost use Rattle.std.specs.Prelude.{◌≡◌, ◌+◌, ◌*◌, ◌<◌, ◌≤◌};
 ghost use Rattle.registers.specs.Reg.{word_range};
 ghost use Rattle.machine.specs.Store.{word};
 ghost use Rattle.shift.specs.Shift.{shifts_made};
 ghost use Rattle.floating.specs.Convert.{fraction_shifts};
-ghost use Rattle.control_row.specs.Row.{control_at, IsRow};
 ghost use Rattle.control_row.specs.Endings.{ending, ending_of, ending_with};
-ghost use Rattle.definition_instructions.specs.Machine.{Channel, machine};
-ghost use Rattle.channel_row.specs.Row.{channel_at, IsChannel};
+ghost use Rattle.definition_instructions.specs.Machine.{Channel as DefinedChannel, machine};
+ghost use Rattle.channel_row.specs.Row.{channel_at, Same};
 ghost use Rattle.definition_instructions.specs.Codes.{execute_code};
 ghost use Rattle.definition_times.specs.Times.{execution_time};
-ghost use Rattle.timer_row.specs.Row.{clock_at, passing, clock_after, IsClock};
+ghost use Rattle.timer_row.specs.Row.{passing, clock_after};
 
 use channel_row::Channel;
 use control_row::{End, Row};
@@ -21,12 +20,10 @@ use timer_row::Clock;
 
 // The end of an instruction that takes the time n.
 fn timed(t: &mut Clock, n: u32, e: End) -> End
-    requires { IsClock t.old }
     ensures value { result ≡ e }
-    ensures time { clock_at t.new ≡ passing n (clock_at t.old) }
-    ensures clock { IsClock t.new }
+    ensures time { t.new ≡ passing n t.old }
 {
-    timer_row::advance(t, n);
+    t.advance(n);
     e
 }
 
@@ -55,26 +52,18 @@ fn execute_low(
     k: &mut Row,
     t: &mut Clock,
     h: &mut Channel,
-    characters: &[u8],
-    typing: &mut [u8],
     f: u32,
     w: u32,
     sb: u32,
 ) -> End
-    requires { (f < 32) × (sb < word_range) × IsRow k.old × IsClock t.old × IsChannel h.old characters.now typing.old }
-    ensures value { ending_with (channel_at h.new characters.now typing.new) (ending_of result s.new (control_at k.new)) ≡ ending (execute_code f w sb (machine s.old (control_at k.old) (channel_at h.old characters.now typing.old))) }
-    ensures kept { IsRow k.new }
-    ensures channel { IsChannel h.new characters.now typing.new }
-    ensures time { clock_after result (clock_at t.new) ≡ clock_after result (passing (execution_time f w sb (machine s.old (control_at k.old) (channel_at h.old characters.now typing.old))) (clock_at t.old)) }
-    ensures clock { IsClock t.new }
+    requires { (f < 32) × (sb < word_range) }
+    ensures value { ending_with (channel_at h.new) (ending_of result s.new k.new) ≡ ending (execute_code f w sb (machine s.old k.old (channel_at h.old))) }
+    ensures same { Same h.old h.new }
+    ensures time { clock_after result t.new ≡ clock_after result (passing (execution_time f w sb (machine s.old k.old (channel_at h.old))) t.old) }
 {
     match f {
-        0 => timed(
-            t,
-            0,
-            device_instructions::aw(s, k, h, characters, typing, w, sb),
-        ),
-        1 => device_instructions::io(s, k, t, h, characters, typing, w, sb),
+        0 => timed(t, 0, device_instructions::aw(s, k, h, w, sb)),
+        1 => device_instructions::io(s, k, t, h, w, sb),
         2 => timed(t, 30, transfer_instructions::bl(s, k, w, sb)),
         3 => timed(t, 30, transfer_instructions::hl(s, k, w, sb)),
         4 => timed(t, 30, integer_instructions::la(s, k, w, sb)),
@@ -111,11 +100,9 @@ fn execute_low(
 
 // The codes 32 to 57; those from 58 on are not used.
 fn execute_high(s: &mut [u32], k: &mut Row, t: &mut Clock, f: u32, w: u32, sb: u32) -> End
-    requires { (32 ≤ f) × (sb < word_range) × IsRow k.old × IsClock t.old }
-    ensures value { (h : Channel) → ending_with h (ending_of result s.new (control_at k.new)) ≡ ending (execute_code f w sb (machine s.old (control_at k.old) h)) }
-    ensures kept { IsRow k.new }
-    ensures time { (h : Channel) → clock_after result (clock_at t.new) ≡ clock_after result (passing (execution_time f w sb (machine s.old (control_at k.old) h)) (clock_at t.old)) }
-    ensures clock { IsClock t.new }
+    requires { (32 ≤ f) × (sb < word_range) }
+    ensures value { (h : DefinedChannel) → ending_with h (ending_of result s.new k.new) ≡ ending (execute_code f w sb (machine s.old k.old h)) }
+    ensures time { (h : DefinedChannel) → clock_after result t.new ≡ clock_after result (passing (execution_time f w sb (machine s.old k.old h)) t.old) }
 {
     match f {
         32 => floating_instructions::ci(s, k, t, w, sb),
@@ -157,21 +144,17 @@ pub fn execute(
     k: &mut Row,
     t: &mut Clock,
     h: &mut Channel,
-    characters: &[u8],
-    typing: &mut [u8],
     f: u32,
     w: u32,
     sb: u32,
 ) -> End
-    requires { (sb < word_range) × IsRow k.old × IsClock t.old × IsChannel h.old characters.now typing.old }
-    ensures value { ending_with (channel_at h.new characters.now typing.new) (ending_of result s.new (control_at k.new)) ≡ ending (execute_code f w sb (machine s.old (control_at k.old) (channel_at h.old characters.now typing.old))) }
-    ensures kept { IsRow k.new }
-    ensures channel { IsChannel h.new characters.now typing.new }
-    ensures time { clock_after result (clock_at t.new) ≡ clock_after result (passing (execution_time f w sb (machine s.old (control_at k.old) (channel_at h.old characters.now typing.old))) (clock_at t.old)) }
-    ensures clock { IsClock t.new }
+    requires { sb < word_range }
+    ensures value { ending_with (channel_at h.new) (ending_of result s.new k.new) ≡ ending (execute_code f w sb (machine s.old k.old (channel_at h.old))) }
+    ensures same { Same h.old h.new }
+    ensures time { clock_after result t.new ≡ clock_after result (passing (execution_time f w sb (machine s.old k.old (channel_at h.old))) t.old) }
 {
     if f < 32 {
-        execute_low(s, k, t, h, characters, typing, f, w, sb)
+        execute_low(s, k, t, h, f, w, sb)
     } else {
         execute_high(s, k, t, f, w, sb)
     }

@@ -1,5 +1,5 @@
 // The instruction at IC with its tests, and the effective address (14.5).
-#![tactic(auto)]
+#![tactic(auto, unfolding(definition_runs::specs::Cycle::relative, definition_runs::specs::Cycle::indexed, definition_runs::specs::Cycle::address, definition_runs::specs::Cycle::indirect_absent, definition_runs::specs::Cycle::effective_address, definition_times::specs::Times::indirect_time, crate::specs::Fetch::fetch_absent, crate::specs::Fetch::violates, crate::specs::Fetch::fetch_mode, crate::specs::Fetch::relative_time, crate::specs::Fetch::indexed_time, control_row::specs::Row::keeps_mode, control_row::specs::Row::with_monitor, machine::specs::Fields::in_task, machine::specs::Fields::with_ic))]
 
 ghost use Rattle.std.specs.Prelude.{◌≡◌, ◌+◌, ◌*◌, ◌/◌, ◌%◌, ◌<◌, ◌≤◌, length};
 ghost use Rattle.registers.specs.Reg.{word_range};
@@ -7,9 +7,8 @@ ghost use Rattle.acceptance.specs.Accept.{most_cells};
 ghost use Rattle.machine.specs.Fields.{with_ic};
 ghost use Rattle.integer.specs.Sums.{sum24};
 ghost use Rattle.definition_runs.specs.Cycle.{relative, indexed, address, indirect_absent, effective_address};
-ghost use Rattle.control_row.specs.Row.{control_at, IsRow};
 ghost use Rattle.definition_times.specs.Times.{modification_time, indirect_time};
-ghost use Rattle.timer_row.specs.Row.{clock_at, passing, IsClock};
+ghost use Rattle.timer_row.specs.Row.{passing};
 ghost use Rattle.fetch.specs.Fetch.{Fetched, fetch_absent, violates, fetch_mode, relative_time, indexed_time};
 
 use control_row::Row;
@@ -42,52 +41,49 @@ pub fn fetched(s: &[u32], ic: u32) -> u32
 }
 
 fn relative(t: &mut Clock, m: u32, x: u32, ic: u32, a: u32) -> u32
-    requires { (a < word_range) × IsClock t.old }
+    requires { a < word_range }
     ensures value { result ≡ relative m ic a }
     ensures bound { result < word_range }
-    ensures time { clock_at t.new ≡ passing (relative_time m x) (clock_at t.old) }
-    ensures kept { IsClock t.new }
+    ensures time { t.new ≡ passing (relative_time m x) t.old }
 {
     if m < 2 {
-        timer_row::advance(t, 0);
+        t.advance(0);
         return a;
     }
     if x == 0 {
-        timer_row::advance(t, 5);
+        t.advance(5);
         return integer::sum24(a, ic);
     }
-    timer_row::advance(t, 10);
+    t.advance(10);
     integer::sum24(a, ic)
 }
 
 fn indexed(s: &[u32], t: &mut Clock, x: u32, a: u32) -> u32
-    requires { (a < word_range) × IsClock t.old }
+    requires { a < word_range }
     ensures value { result ≡ indexed s.now x a }
     ensures bound { result < word_range }
-    ensures time { clock_at t.new ≡ passing (indexed_time x) (clock_at t.old) }
-    ensures kept { IsClock t.new }
+    ensures time { t.new ≡ passing (indexed_time x) t.old }
 {
     if x == 0 {
-        timer_row::advance(t, 0);
+        t.advance(0);
         return a;
     }
-    timer_row::advance(t, 5);
+    t.advance(5);
     let w = machine::word_at(s, x);
     integer::sum24(a, w)
 }
 
 // The address before indirection; its time passes.
 pub fn address(s: &[u32], k: &Row, t: &mut Clock, i: Instruction) -> u32
-    requires { (i.d < 4096) × IsClock t.old }
-    ensures value { result ≡ address s.now (control_at k.now) i }
+    requires { i.d < 4096 }
+    ensures value { result ≡ address s.now k.now i }
     ensures bound { result < word_range }
-    ensures time { clock_at t.new ≡ passing (modification_time i.m i.x) (clock_at t.old) }
-    ensures kept { IsClock t.new }
+    ensures time { t.new ≡ passing (modification_time i.m i.x) t.old }
 {
     let d = registers::signed_byte(i.d);
-    let q = control_row::pending(k);
+    let q = k.pending();
     let p = integer::sum24(d, q);
-    let n = control_row::ic(k);
+    let n = k.ic();
     let a = relative(t, i.m, i.x, n, p);
     indexed(s, t, i.x, a)
 }
@@ -95,11 +91,7 @@ pub fn address(s: &[u32], k: &Row, t: &mut Clock, i: Instruction) -> u32
 pub fn is_indirect_absent(s: &[u32], m: u32, a: u32) -> bool
     ensures { result ≡ indirect_absent s.now m a }
 {
-    if m % 2 == 0 {
-        false
-    } else {
-        machine::is_absent(s, a)
-    }
+    m % 2 != 0 && machine::is_absent(s, a)
 }
 
 fn indirect_time(code: u32, m: u32) -> u32
@@ -119,14 +111,13 @@ fn indirect_time(code: u32, m: u32) -> u32
 
 // Indirection; its time passes.
 pub fn effective_address(s: &[u32], t: &mut Clock, code: u32, m: u32, a: u32) -> u32
-    requires { (a < word_range) × IsClock t.old }
+    requires { a < word_range }
     ensures value { result ≡ effective_address s.now m a }
     ensures bound { result < word_range }
-    ensures time { clock_at t.new ≡ passing (indirect_time code m) (clock_at t.old) }
-    ensures kept { IsClock t.new }
+    ensures time { t.new ≡ passing (indirect_time code m) t.old }
 {
     let n = indirect_time(code, m);
-    timer_row::advance(t, n);
+    t.advance(n);
     if m % 2 == 0 {
         a
     } else {
@@ -136,30 +127,26 @@ pub fn effective_address(s: &[u32], t: &mut Clock, code: u32, m: u32, a: u32) ->
 
 // Test Protection of the fetch from a cell with the key q; where it passes, monitor mode := PR(PK) = 1. Most fetches keep the mode.
 pub fn is_fetch_violation(k: &mut Row, q: u32) -> bool
-    requires { IsRow k.old }
-    ensures test { result ≡ violates (control_at k.old) q }
-    ensures mode { control_at k.new ≡ fetch_mode (control_at k.old) q }
-    ensures kept { IsRow k.new }
+    ensures test { result ≡ violates k.old q }
+    ensures mode { k.new ≡ fetch_mode k.old q }
 {
-    if control_row::keeps_mode(k, q) {
+    if k.keeps_mode(q) {
         return false;
     }
-    if control_row::is_task(k) {
+    if k.is_task() {
         return true;
     }
-    control_row::set_monitor(k, false);
+    k.set_monitor(false);
     false
 }
 
 // IC := IC + 2.
 pub fn raise_ic(k: &mut Row)
-    requires { IsRow k.old }
-    ensures value { control_at k.new ≡ with_ic (control_at k.old) (sum24 (control_at k.old).ic 2) }
-    ensures kept { IsRow k.new }
+    ensures { k.new ≡ with_ic k.old (sum24 k.old.ic 2) }
 {
-    let a = control_row::ic(k);
+    let a = k.ic();
     let n = integer::sum24(a, 2);
-    control_row::set_ic(k, n);
+    k.set_ic(n);
 }
 
 // IC or IC + 1 does not exist.
@@ -171,9 +158,5 @@ pub fn is_fetch_absent(s: &[u32], ic: u32) -> bool
     if (h as usize) < s.len() {
         return false;
     }
-    if machine::is_absent(s, ic) {
-        return true;
-    }
-    let n = integer::sum24(ic, 1);
-    machine::is_absent(s, n)
+    machine::is_absent(s, ic) || machine::is_absent(s, integer::sum24(ic, 1))
 }

@@ -3,55 +3,63 @@ ghost use Rattle.std.specs.Prelude.{◌≡◌, ◌^◌, ◌<◌};
 ghost use Rattle.floating.specs.Operands.{fraction, exponent, register_fraction};
 ghost use Rattle.floating.specs.Convert.{cf_places, cf_rounded, cf_end, cf_by_places, cf, fraction_shifts};
 
-use super::{Converted, accumulator};
-use registers::{BIT_0, LONG_WORD_RANGE, WORD_RANGE};
+use super::Converted;
+use registers::{BIT_0, LONG_WORD_RANGE, Register, WORD_RANGE};
 
 // The rounding, and the test for overflow.
-fn rounded(word: u32, af: u64) -> Converted
-    requires { af < 2 ^ 39 }
+#[tactic(auto, unfolding(crate::specs::Convert::cf_end))]
+fn rounded(word: u32, af: Register<39>) -> Converted
     ensures { result ≡ cf_end word (cf_rounded af) }
 {
-    let t = (af + af / 8192 % 2 * 16384) % 549755813888;
-    if t / 274877906944 == t / 137438953472 % 2 {
+    let up = Register::new(af.bits() / 8192 % 2 * 16384);
+    let af = af.wrapping_add(up);
+    if af.bits_differ() {
         Converted {
-            word: t / 16384 % LONG_WORD_RANGE,
-            over: 0,
+            word: u64::from(word),
+            over: 1,
         }
     } else {
         Converted {
-            word: word as u64,
-            over: 1,
+            word: af.bits() / 16384 % LONG_WORD_RANGE,
+            over: 0,
         }
     }
 }
 
 // b is SB + 2 ** 23.
-fn by_places(b: u32, word: u32, af: u64) -> Converted
-    requires { af < 2 ^ 39 }
+#[tactic(auto, unfolding(crate::specs::Convert::cf_by_places, crate::specs::Convert::cf_shifts))]
+fn by_places(b: u32, word: u32, af: Register<39>) -> Converted
     ensures { result ≡ cf_by_places b word af }
 {
     if b < BIT_0 {
-        if af == 0 {
+        if af.bits() == 0 {
             return rounded(word, af);
         }
         return Converted {
-            word: word as u64,
+            word: u64::from(word),
             over: 1,
         };
     }
     if b >= 8388672 {
-        return rounded(word, 0);
+        return rounded(word, Register::new(0));
     }
-    rounded(word, accumulator::shift_af(b - BIT_0, af))
+    rounded(word, af.shifted_right_by(b - BIT_0))
+}
+
+// Wfrac, and fraction(SB): 36 bits of two words.
+pub fn fraction(pre: u32, word: u32) -> Register<36>
+    requires { (pre < 2 ^ 24) × (word < 2 ^ 24) }
+    ensures { result ≡ fraction pre word }
+{
+    Register::new(u64::from(pre) * 4096 + u64::from(word) / 4096)
 }
 
 // AF(-1:35) := signed Wfrac; AF(36:37) := 0.
-pub fn register_fraction(pre: u32, word: u32) -> u64
+pub fn register_fraction(pre: u32, word: u32) -> Register<39>
     requires { (pre < 2 ^ 24) × (word < 2 ^ 24) }
-    ensures { (result ≡ register_fraction (fraction pre word)) × (result < 2 ^ 39) }
+    ensures { result ≡ register_fraction (fraction pre word) }
 {
-    let f = pre as u64 * 4096 + word as u64 / 4096;
-    (f + f / 34359738368 * 68719476736) * 4
+    fraction(pre, word).signed::<37>().at_left()
 }
 
 // 23 - SB - signed Wexp, 24 bits.
@@ -73,6 +81,7 @@ pub fn shifts(word: u32, sb: u32) -> u32
     if n < 64 { n } else { 0 }
 }
 
+#[tactic(auto, unfolding(crate::specs::Convert::cf))]
 pub fn convert(pre: u32, word: u32, sb: u32) -> Converted
     requires { (pre < 2 ^ 24) × (word < 2 ^ 24) × (sb < 2 ^ 24) }
     ensures { result ≡ cf pre word sb }

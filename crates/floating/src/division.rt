@@ -1,88 +1,98 @@
 // Divide Floating: the loop on AF and BF.
-ghost use Rattle.std.specs.Prelude.{◌≡◌, ◌+◌, ◌^◌, ◌<◌};
+ghost use Rattle.std.specs.Prelude.{◌≡◌, ◌+◌, ◌<◌};
 ghost use Rattle.registers.specs.Reg.{iter};
-ghost use Rattle.floating.specs.Divide.{fd_start, fd_add, fd_step, fd_loop, fd_result, divide_floating};
+ghost use Rattle.floating.specs.Divide.{next_digit, fd_start, fd_add, fd_step, fd_loop, fd_result, divide_floating};
 
-use super::{Operands, accumulator};
+use super::Operands;
+use registers::Register;
 use rounding::{Pair, Unpacked};
 
 // Of SC, as printed (docs/DECISIONS.md, A3).
-const DIVIDE_OFFSET: u32 = 35;
+const DIVIDE_OFFSET: u64 = 35;
 
 #[derive(Clone, Copy)]
 pub struct Quotient {
-    pub af: u64,
-    pub bf: u64,
-    pub digit: u64,
+    pub af: Register<39>,
+    pub bf: Register<36>,
+    pub digit: Register<1>,
     pub passes: u32,
 }
 
-fn start(x: u64, af: u64) -> Quotient
-    requires { (x < 2 ^ 39) × (af < 2 ^ 39) }
-    ensures { (result ≡ fd_start x af) × (result.af < 2 ^ 39) × (result.bf < 2 ^ 36) × (result.digit < 2) × (result.passes ≡ 0) }
+fn next_digit(x: Register<39>, af: Register<39>) -> Register<1>
+    ensures { result ≡ next_digit x af }
 {
-    if af / 274877906944 == x / 274877906944 {
-        let t = accumulator::sub_af(x, af) * 2 % 549755813888;
+    Register::new((af.sign() + x.sign() + 1) % 2)
+}
+
+#[tactic(auto, unfolding(crate::specs::Divide::fd_start))]
+fn start(x: Register<39>, af: Register<39>) -> Quotient
+    ensures value { result ≡ fd_start x af }
+    ensures none { result.passes ≡ 0 }
+{
+    if af.sign() == x.sign() {
+        let af = af.wrapping_sub(x).shifted_left();
         Quotient {
-            af: t,
-            bf: 0,
-            digit: (t / 274877906944 + x / 274877906944 + 1) % 2,
+            af,
+            bf: Register::new(0),
+            digit: next_digit(x, af),
             passes: 0,
         }
     } else {
-        let t = accumulator::add_af(x, af) * 2 % 549755813888;
+        let af = af.wrapping_add(x).shifted_left();
         Quotient {
-            af: t,
-            bf: 68719476735,
-            digit: (t / 274877906944 + x / 274877906944 + 1) % 2,
+            af,
+            bf: Register::new(0).complement(),
+            digit: next_digit(x, af),
             passes: 0,
         }
     }
 }
 
-fn add(x: u64, digit: u64, af: u64) -> u64
-    requires { (x < 2 ^ 39) × (af < 2 ^ 39) }
-    ensures { (result ≡ fd_add x digit af) × (result < 2 ^ 39) }
+#[tactic(auto, unfolding(crate::specs::Divide::fd_add))]
+fn add(x: Register<39>, digit: Register<1>, af: Register<39>) -> Register<39>
+    ensures { result ≡ fd_add x digit af }
 {
-    if digit == 1 {
-        accumulator::sub_af(x, af)
+    if digit.bits() == 1 {
+        af.wrapping_sub(x)
     } else {
-        accumulator::add_af(x, af)
+        af.wrapping_add(x)
     }
 }
 
-fn step(x: u64, q: Quotient) -> Quotient
-    requires { (x < 2 ^ 39) × (q.af < 2 ^ 39) × (q.bf < 2 ^ 36) × (q.digit < 2) × (q.passes < 71) }
-    ensures { (result ≡ fd_step x q) × (result.af < 2 ^ 39) × (result.bf < 2 ^ 36) × (result.digit < 2) × (result.passes ≡ q.passes + 1) }
+fn step(x: Register<39>, q: Quotient) -> Quotient
+    requires { q.passes < 71 }
+    ensures value { result ≡ fd_step x q }
+    ensures counted { result.passes ≡ q.passes + 1 }
 {
     let t = add(x, q.digit, q.af);
     Quotient {
-        af: t * 2 % 549755813888,
-        bf: q.bf * 2 % 68719476736 + q.digit,
-        digit: (t / 274877906944 + x / 274877906944 + 1) % 2,
+        af: t.shifted_left(),
+        bf: q.bf.shifted_in(q.digit.bits()),
+        digit: next_digit(x, t),
         passes: q.passes + 1,
     }
 }
 
 // The first 35 passes: before each of them BF(0) and BF(1) are as at the start, and equal, so the loop goes on (`proofs/Passes.antt`).
-fn first_passes(x: u64, af: u64) -> Quotient
-    requires { (x < 2 ^ 39) × (af < 2 ^ 39) }
-    ensures { (result ≡ iter (fd_step x) 35 (fd_start x af)) × (result.af < 2 ^ 39) × (result.bf < 2 ^ 36) × (result.digit < 2) × (result.passes ≡ 35) }
+#[tactic(auto, using(registers::proofs::Loops::iter_none, registers::proofs::Loops::iter_next))]
+fn first_passes(x: Register<39>, af: Register<39>) -> Quotient
+    ensures value { result ≡ iter (fd_step x) 35 (fd_start x af) }
+    ensures counted { result.passes ≡ 35 }
 {
     let mut q = start(x, af);
-    for i in 0u32..35 {
+    for _ in 0u32..35 {
         q = step(x, q);
     }
     q
 }
 
-fn divide_loop(x: u64, af: u64) -> Quotient
-    requires { (x < 2 ^ 39) × (af < 2 ^ 39) }
-    ensures { (result ≡ fd_loop x af) × (result.af < 2 ^ 39) × (result.bf < 2 ^ 36) × (result.passes < 72) }
+fn divide_loop(x: Register<39>, af: Register<39>) -> Quotient
+    ensures value { result ≡ fd_loop x af }
+    ensures counted { result.passes < 72 }
 {
     let mut q = first_passes(x, af);
-    for i in 35u32..71 {
-        if q.bf / 34359738368 != q.bf / 17179869184 % 2 {
+    while q.passes < 71 {
+        if q.bf.bits_differ() {
             return q;
         }
         q = step(x, q);
@@ -91,46 +101,34 @@ fn divide_loop(x: u64, af: u64) -> Quotient
 }
 
 // BF as the fraction, with the digit after it for rounding.
-fn result(wexp: u32, sbexp: u32, x: u64, q: Quotient) -> Unpacked
-    requires { (wexp < 2 ^ 12) × (sbexp < 2 ^ 12) × (x < 2 ^ 39) × (q.af < 2 ^ 39) × (q.bf < 2 ^ 36) × (q.passes < 72) }
-    ensures { (result ≡ fd_result wexp sbexp x q) × (result.af < 2 ^ 39) × (result.sc < 2 ^ 13) }
+fn result(o: Operands, x: Register<39>, q: Quotient) -> Unpacked
+    requires { q.passes < 72 }
+    ensures { result ≡ fd_result o.wexp o.sbexp x q }
 {
-    let d = (q.af / 274877906944 + x / 274877906944 + 1) % 2;
-    let c = accumulator::signed_exponent(wexp)
-        + (8192 - accumulator::signed_exponent(sbexp))
-        + DIVIDE_OFFSET;
+    let bf = q.bf.signed::<37>().bits();
+    let difference = o.wexp.signed::<13>().wrapping_sub(o.sbexp.signed());
     Unpacked {
-        af: (q.bf + q.bf / 34359738368 * 68719476736) * 4 + d * 2,
-        sc: (c + (8192 - q.passes)) % 8192,
+        af: Register::new(bf * 4 + next_digit(x, q.af).bits() * 2),
+        sc: difference
+            .wrapping_add(Register::new(DIVIDE_OFFSET))
+            .wrapping_sub(Register::new(u64::from(q.passes))),
     }
 }
 
+#[tactic(auto, unfolding(crate::specs::Divide::divide_floating))]
 pub fn divide_floating(ex: u32, pre: u32, word: u32, o: Operands) -> Pair
-    requires { (o.af < 2 ^ 39) × (o.sf < 2 ^ 38) × (o.wexp < 2 ^ 12) × (o.sbexp < 2 ^ 12) }
     ensures { result ≡ divide_floating ex pre word o }
 {
-    if o.af / 16384 == 0 {
-        if o.sf / 16384 == 0 {
-            return Pair {
-                pre: pre as u64,
-                word: word as u64,
-                over: 1,
-            };
-        }
-        return Pair {
-            pre: pre as u64,
-            word: word as u64 / 4096 * 4096 + 2048,
-            over: 0,
-        };
+    let pre = u64::from(pre);
+    let word = u64::from(word);
+    if o.sf.first::<24>().bits() == 0 {
+        return Pair { pre, word, over: 1 };
     }
-    if o.sf / 16384 == 0 {
-        return Pair {
-            pre: pre as u64,
-            word: word as u64,
-            over: 1,
-        };
+    if o.af.first::<25>().bits() == 0 {
+        let word = word / 4096 * 4096 + 2048;
+        return Pair { pre, word, over: 0 };
     }
-    let x = accumulator::signed_sf(o.sf);
+    let x = o.sf.signed();
     let q = divide_loop(x, o.af);
-    rounding::round_store(ex, result(o.wexp, o.sbexp, x, q))
+    rounding::round_store(ex, result(o, x, q))
 }

@@ -8,9 +8,9 @@ ghost use Rattle.floating.specs.Multiply.{fm};
 ghost use Rattle.floating.specs.Divide.{fd};
 ghost use Rattle.floating.specs.Convert.{cf, fraction_shifts};
 
+use registers::Register;
 use rounding::Pair;
 
-mod accumulator;
 mod addition;
 mod conversion;
 mod division;
@@ -19,13 +19,13 @@ mod multiplication;
 // What Fetch Floating Operands leaves: the fractions in AF and SF, and the exponents.
 #[derive(Clone, Copy)]
 pub struct Operands {
-    pub af: u64,
-    pub sf: u64,
-    pub wexp: u32,
-    pub sbexp: u32,
+    pub af: Register<39>,
+    pub sf: Register<38>,
+    pub wexp: Register<12>,
+    pub sbexp: Register<12>,
 }
 
-// W of CF, and 1 where EX(22) and IR(1) are set.
+// W of CF, and 1 where EX(22) and IR(1) are set: the record of the definition `cf` has the kept W too, so this is no Option.
 #[derive(Clone, Copy)]
 pub struct Converted {
     pub word: u64,
@@ -33,37 +33,39 @@ pub struct Converted {
 }
 
 // Fetch Floating Operands.
+#[tactic(auto, unfolding(crate::specs::Operands::fetch_floating))]
 fn fetch(pre: u32, word: u32, first: u32, second: u32) -> Operands
     requires { (pre < 2 ^ 24) × (word < 2 ^ 24) × (first < 2 ^ 24) × (second < 2 ^ 24) }
-    ensures { (result ≡ fetch_floating pre word first second) × (result.af < 2 ^ 39) × (result.sf < 2 ^ 38) × (result.wexp < 2 ^ 12) × (result.sbexp < 2 ^ 12) }
+    ensures { result ≡ fetch_floating pre word first second }
 {
-    let f = conversion::register_fraction(pre, word);
-    let s = first as u64 * 4096 + second as u64 / 4096;
     Operands {
-        af: f,
-        sf: s * 4,
-        wexp: word % 4096,
-        sbexp: second % 4096,
+        af: conversion::register_fraction(pre, word),
+        sf: conversion::fraction(first, second).at_left(),
+        wexp: Register::new(u64::from(word % 4096)),
+        sbexp: Register::new(u64::from(second % 4096)),
     }
 }
 
 // FA: EX, of which only EX(21) is looked at, Wpre, W, the storage double word.
+#[tactic(auto, unfolding(crate::specs::Add::fa))]
 pub fn add(ex: u32, pre: u32, word: u32, first: u32, second: u32) -> Pair
     requires { (pre < 2 ^ 24) × (word < 2 ^ 24) × (first < 2 ^ 24) × (second < 2 ^ 24) }
     ensures { result ≡ fa ex pre word first second }
 {
-    addition::add_floating(true, ex, fetch(pre, word, first, second))
+    addition::add_floating::<true>(ex, fetch(pre, word, first, second))
 }
 
 // FS.
+#[tactic(auto, unfolding(crate::specs::Add::fs))]
 pub fn subtract(ex: u32, pre: u32, word: u32, first: u32, second: u32) -> Pair
     requires { (pre < 2 ^ 24) × (word < 2 ^ 24) × (first < 2 ^ 24) × (second < 2 ^ 24) }
     ensures { result ≡ fs ex pre word first second }
 {
-    addition::add_floating(false, ex, fetch(pre, word, first, second))
+    addition::add_floating::<false>(ex, fetch(pre, word, first, second))
 }
 
 // FM.
+#[tactic(auto, unfolding(crate::specs::Multiply::fm))]
 pub fn multiply(ex: u32, pre: u32, word: u32, first: u32, second: u32) -> Pair
     requires { (pre < 2 ^ 24) × (word < 2 ^ 24) × (first < 2 ^ 24) × (second < 2 ^ 24) }
     ensures { result ≡ fm ex pre word first second }
@@ -72,6 +74,7 @@ pub fn multiply(ex: u32, pre: u32, word: u32, first: u32, second: u32) -> Pair
 }
 
 // FD.
+#[tactic(auto, unfolding(crate::specs::Divide::fd))]
 pub fn divide(ex: u32, pre: u32, word: u32, first: u32, second: u32) -> Pair
     requires { (pre < 2 ^ 24) × (word < 2 ^ 24) × (first < 2 ^ 24) × (second < 2 ^ 24) }
     ensures { result ≡ fd ex pre word first second }

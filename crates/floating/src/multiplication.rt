@@ -1,72 +1,70 @@
 // Multiply Floating: 35 steps on AF and BF, and a last subtraction.
-ghost use Rattle.std.specs.Prelude.{◌≡◌, ◌+◌, ◌*◌, ◌/◌, ◌^◌, ◌<◌};
+ghost use Rattle.std.specs.Prelude.{◌≡◌, ◌/◌};
+ghost use Rattle.registers.specs.Reg.{asr};
 ghost use Rattle.floating.specs.Multiply.{fm_step, fm_end, fm_loop, multiply_floating};
 
-use super::{Operands, accumulator};
+use super::Operands;
+use registers::Register;
 use rounding::{Pair, Unpacked};
 
 #[derive(Clone, Copy)]
 pub struct Product {
-    pub af: u64,
-    pub bf: u64,
+    pub af: Register<39>,
+    pub bf: Register<36>,
 }
 
-fn shifted(af: u64, bf: u64) -> Product
-    requires { af < 2 ^ 39 }
-    ensures { (result ≡ record { af = af / 2 + af / 2 ^ 38 * 2 ^ 38; bf = bf / 2 }) × (result.af < 2 ^ 39) }
+fn shifted(p: Product) -> Product
+    ensures { result ≡ record { af = asr 39 p.af; bf = p.bf / 2 } }
 {
     Product {
-        af: af / 2 + af / 274877906944 * 274877906944,
-        bf: bf / 2,
+        af: p.af.shifted_right(),
+        bf: p.bf.logical_right(1),
     }
 }
 
-fn step(x: u64, p: Product) -> Product
-    requires { (x < 2 ^ 39) × (p.af < 2 ^ 39) }
-    ensures { (result ≡ fm_step x p) × (result.af < 2 ^ 39) }
+#[tactic(auto, unfolding(crate::specs::Multiply::fm_step))]
+fn step(x: Register<39>, p: Product) -> Product
+    ensures { result ≡ fm_step x p }
 {
-    if p.bf % 2 == 1 {
-        shifted(accumulator::add_af(x, p.af), p.bf)
+    if p.bf.bits() % 2 == 1 {
+        let af = p.af.wrapping_add(x);
+        shifted(Product { af, ..p })
     } else {
-        shifted(p.af, p.bf)
+        shifted(p)
     }
 }
 
-fn end(x: u64, p: Product) -> u64
-    requires { (x < 2 ^ 39) × (p.af < 2 ^ 39) }
-    ensures { (result ≡ fm_end x p) × (result < 2 ^ 39) }
+#[tactic(auto, unfolding(crate::specs::Multiply::fm_end))]
+fn end(x: Register<39>, p: Product) -> Register<39>
+    ensures { result ≡ fm_end x p }
 {
-    if p.bf % 2 == 1 {
-        accumulator::sub_af(x, p.af)
+    if p.bf.bits() % 2 == 1 {
+        p.af.wrapping_sub(x)
     } else {
         p.af
     }
 }
 
-fn multiply_loop(x: u64, bf: u64) -> u64
-    requires { x < 2 ^ 39 }
-    ensures { (result ≡ fm_loop x bf) × (result < 2 ^ 39) }
+#[tactic(auto, unfolding(crate::specs::Multiply::fm_loop), using(registers::proofs::Loops::iter_none, registers::proofs::Loops::iter_next))]
+fn multiply_loop(x: Register<39>, bf: Register<36>) -> Register<39>
+    ensures { result ≡ fm_loop x bf }
 {
-    let mut p = Product { af: 0, bf: bf };
-    for i in 0u32..35 {
+    let mut p = Product {
+        af: Register::new(0),
+        bf,
+    };
+    for _ in 0u32..35 {
         p = step(x, p);
     }
     end(x, p)
 }
 
+#[tactic(auto, unfolding(crate::specs::Multiply::multiply_floating))]
 pub fn multiply_floating(ex: u32, o: Operands) -> Pair
-    requires { (o.af < 2 ^ 39) × (o.sf < 2 ^ 38) × (o.wexp < 2 ^ 12) × (o.sbexp < 2 ^ 12) }
     ensures { result ≡ multiply_floating ex o }
 {
-    let w = accumulator::signed_exponent(o.wexp);
-    let s = accumulator::signed_exponent(o.sbexp);
-    let x = accumulator::signed_sf(o.sf);
-    let af = multiply_loop(x, o.af / 4 % 68719476736);
-    rounding::round_store(
-        ex,
-        Unpacked {
-            af: af,
-            sc: (w + s) % 8192,
-        },
-    )
+    let x = o.sf.signed();
+    let af = multiply_loop(x, o.af.first::<37>().last());
+    let sc = o.wexp.signed::<13>().wrapping_add(o.sbexp.signed());
+    rounding::round_store(ex, Unpacked { af, sc })
 }

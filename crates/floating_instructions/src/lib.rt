@@ -1,15 +1,14 @@
 // Conversions and floating-point arithmetic (14.8): each function does the micro-operations of its meaning, in their order.
-#![tactic(auto)]
+#![tactic(auto, unfolding(definition_instructions::specs::Codes::execute, definition_instructions::specs::Meaning::meaning, definition_instructions::specs::MicroOps::execute_operation, definition_instructions::specs::MicroOps::micro_step, definition_instructions::specs::MicroOps::micro_steps, definition_instructions::specs::MicroOps::monitor_step, definition_instructions::specs::MicroOps::monitor_steps, definition_times::specs::Times::operation_time))]
 
 ghost use Rattle.std.specs.Prelude.{◌≡◌, ◌<◌};
 ghost use Rattle.registers.specs.Reg.{word_range};
-ghost use Rattle.control_row.specs.Row.{control_at, IsRow};
 ghost use Rattle.control_row.specs.Endings.{ending, ending_of};
 ghost use Rattle.definition_instructions.specs.Codes.{execute};
 ghost use Rattle.definition_instructions.specs.Meaning.{CI, CF, FA, FS, FM, FD};
 ghost use Rattle.definition_instructions.specs.Machine.{computer};
 ghost use Rattle.definition_times.specs.Times.{operation_time};
-ghost use Rattle.timer_row.specs.Row.{clock_at, passing, IsClock};
+ghost use Rattle.timer_row.specs.Row.{passing};
 
 use control_row::{End, Row};
 use machine::{FLOATING_OVERFLOW, INTEGER_OVERFLOW};
@@ -17,18 +16,15 @@ use timer_row::Clock;
 
 // Convert Integer to Floating.
 pub fn ci(s: &mut [u32], k: &mut Row, t: &mut Clock, w: u32, sb: u32) -> End
-    requires { IsRow k.old × IsClock t.old }
-    ensures value { ending_of result s.new (control_at k.new) ≡ ending (execute CI w sb s.old (control_at k.old)) }
-    ensures kept { IsRow k.new }
-    ensures time { clock_at t.new ≡ passing (operation_time CI sb w (computer s.old (control_at k.old))) (clock_at t.old) }
-    ensures clock { IsClock t.new }
+    ensures value { ending_of result s.new k.new ≡ ending (execute CI w sb s.old k.old) }
+    ensures time { t.new ≡ passing (operation_time CI sb w (computer s.old k.old)) t.old }
 {
-    control_row::clear_flags(k);
+    k.clear_flags();
     let x = machine::word_at(s, w);
     let r = rounding::convert_integer(x, sb);
     let n = rounding::integer_shifts(x, sb, r.word);
-    timer_row::advance(t, 40 + 5 * n);
-    control_row::note_overflow(k, r.over, FLOATING_OVERFLOW);
+    t.advance(40 + 5 * n);
+    k.note_overflow(r.over, FLOATING_OVERFLOW);
     let p = machine::previous_register(w);
     machine::put_long(s, p, r.pre);
     machine::put_long(s, w, r.word);
@@ -37,28 +33,25 @@ pub fn ci(s: &mut [u32], k: &mut Row, t: &mut Clock, w: u32, sb: u32) -> End
 
 // Convert Floating to Integer.
 pub fn cf(s: &mut [u32], k: &mut Row, w: u32, sb: u32) -> End
-    requires { (sb < word_range) × IsRow k.old }
-    ensures value { ending_of result s.new (control_at k.new) ≡ ending (execute CF w sb s.old (control_at k.old)) }
-    ensures kept { IsRow k.new }
+    requires { sb < word_range }
+    ensures { ending_of result s.new k.new ≡ ending (execute CF w sb s.old k.old) }
 {
-    control_row::clear_flags(k);
+    k.clear_flags();
     let p = machine::previous_register(w);
     let u = machine::word_at(s, p);
     let x = machine::word_at(s, w);
     let r = floating::convert_floating(u, x, sb);
-    control_row::note_overflow(k, r.over, INTEGER_OVERFLOW);
+    k.note_overflow(r.over, INTEGER_OVERFLOW);
     machine::put_long(s, w, r.word);
     End::Done
 }
 
 // Add Floating.
 pub fn fa(s: &mut [u32], k: &mut Row, w: u32, sb: u32) -> End
-    requires { IsRow k.old }
-    ensures value { ending_of result s.new (control_at k.new) ≡ ending (execute FA w sb s.old (control_at k.old)) }
-    ensures kept { IsRow k.new }
+    ensures { ending_of result s.new k.new ≡ ending (execute FA w sb s.old k.old) }
 {
-    let e = control_row::ex(k);
-    control_row::clear_flags(k);
+    let e = k.ex();
+    k.clear_flags();
     if machine::is_absent(s, sb) {
         return End::Faulted;
     }
@@ -69,7 +62,7 @@ pub fn fa(s: &mut [u32], k: &mut Row, w: u32, sb: u32) -> End
     let u = machine::word_at(s, a / 2);
     let v = machine::word_at(s, sb / 2);
     let r = floating::add(e, x, y, u, v);
-    control_row::note_overflow(k, r.over, FLOATING_OVERFLOW);
+    k.note_overflow(r.over, FLOATING_OVERFLOW);
     machine::put_long(s, p, r.pre);
     machine::put_long(s, w, r.word);
     End::Done
@@ -77,12 +70,10 @@ pub fn fa(s: &mut [u32], k: &mut Row, w: u32, sb: u32) -> End
 
 // Subtract Floating.
 pub fn fs(s: &mut [u32], k: &mut Row, w: u32, sb: u32) -> End
-    requires { IsRow k.old }
-    ensures value { ending_of result s.new (control_at k.new) ≡ ending (execute FS w sb s.old (control_at k.old)) }
-    ensures kept { IsRow k.new }
+    ensures { ending_of result s.new k.new ≡ ending (execute FS w sb s.old k.old) }
 {
-    let e = control_row::ex(k);
-    control_row::clear_flags(k);
+    let e = k.ex();
+    k.clear_flags();
     if machine::is_absent(s, sb) {
         return End::Faulted;
     }
@@ -93,7 +84,7 @@ pub fn fs(s: &mut [u32], k: &mut Row, w: u32, sb: u32) -> End
     let u = machine::word_at(s, a / 2);
     let v = machine::word_at(s, sb / 2);
     let r = floating::subtract(e, x, y, u, v);
-    control_row::note_overflow(k, r.over, FLOATING_OVERFLOW);
+    k.note_overflow(r.over, FLOATING_OVERFLOW);
     machine::put_long(s, p, r.pre);
     machine::put_long(s, w, r.word);
     End::Done
@@ -101,12 +92,10 @@ pub fn fs(s: &mut [u32], k: &mut Row, w: u32, sb: u32) -> End
 
 // Multiply Floating.
 pub fn fm(s: &mut [u32], k: &mut Row, w: u32, sb: u32) -> End
-    requires { IsRow k.old }
-    ensures value { ending_of result s.new (control_at k.new) ≡ ending (execute FM w sb s.old (control_at k.old)) }
-    ensures kept { IsRow k.new }
+    ensures { ending_of result s.new k.new ≡ ending (execute FM w sb s.old k.old) }
 {
-    let e = control_row::ex(k);
-    control_row::clear_flags(k);
+    let e = k.ex();
+    k.clear_flags();
     if machine::is_absent(s, sb) {
         return End::Faulted;
     }
@@ -117,7 +106,7 @@ pub fn fm(s: &mut [u32], k: &mut Row, w: u32, sb: u32) -> End
     let u = machine::word_at(s, a / 2);
     let v = machine::word_at(s, sb / 2);
     let r = floating::multiply(e, x, y, u, v);
-    control_row::note_overflow(k, r.over, FLOATING_OVERFLOW);
+    k.note_overflow(r.over, FLOATING_OVERFLOW);
     machine::put_long(s, p, r.pre);
     machine::put_long(s, w, r.word);
     End::Done
@@ -125,12 +114,10 @@ pub fn fm(s: &mut [u32], k: &mut Row, w: u32, sb: u32) -> End
 
 // Divide Floating.
 pub fn fd(s: &mut [u32], k: &mut Row, w: u32, sb: u32) -> End
-    requires { IsRow k.old }
-    ensures value { ending_of result s.new (control_at k.new) ≡ ending (execute FD w sb s.old (control_at k.old)) }
-    ensures kept { IsRow k.new }
+    ensures { ending_of result s.new k.new ≡ ending (execute FD w sb s.old k.old) }
 {
-    let e = control_row::ex(k);
-    control_row::clear_flags(k);
+    let e = k.ex();
+    k.clear_flags();
     if machine::is_absent(s, sb) {
         return End::Faulted;
     }
@@ -141,7 +128,7 @@ pub fn fd(s: &mut [u32], k: &mut Row, w: u32, sb: u32) -> End
     let u = machine::word_at(s, a / 2);
     let v = machine::word_at(s, sb / 2);
     let r = floating::divide(e, x, y, u, v);
-    control_row::note_overflow(k, r.over, FLOATING_OVERFLOW);
+    k.note_overflow(r.over, FLOATING_OVERFLOW);
     machine::put_long(s, p, r.pre);
     machine::put_long(s, w, r.word);
     End::Done

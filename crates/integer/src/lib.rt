@@ -7,9 +7,9 @@ ghost use Rattle.integer.specs.Sums.{adder, sum, difference, sum_with_carry, dif
 ghost use Rattle.integer.specs.Bitwise.{logical_and, logical_or, logical_xor, cleared};
 ghost use Rattle.integer.specs.Skip.{comparison, is_high, is_low, is_equal, is_not_equal, bits_one, bits_zero};
 
-use registers::{BIT_0, WORD_RANGE};
+use registers::{LONG_WORD_RANGE, Register, WORD_RANGE, signed25};
 
-// AR(0:23), and 1 for an overflow and for a carry.
+// AR(0:23), and 1 for an overflow and for a carry: EX(22) and EX(23), set beside a word that is stored whatever they say, so the word is no Option.
 #[derive(Clone, Copy)]
 pub struct Sum {
     pub word: u32,
@@ -17,65 +17,64 @@ pub struct Sum {
     pub carry: u32,
 }
 
-// 1 where two bits differ.
-fn unequal(a: u32, b: u32) -> u32
-    requires { (a < 2) × (b < 2) }
-    ensures { (result ≡ (a + b) % 2) × (result < 2) }
-{
-    if a == b { 0 } else { 1 }
-}
-
 // One pass of the adder of AR, with a carry in.
-fn add_once(a: u32, b: u32, c: u32) -> Sum
-    requires { (a < 2 ^ 25) × (b < 2 ^ 25) × (c < 2) }
+fn add_once(a: Register<25>, b: Register<25>, c: u32) -> Sum
+    requires { c < 2 }
     ensures value { result ≡ adder a b c }
     ensures bounds { (result.word < 2 ^ 24) × (result.over < 2) × (result.carry < 2) }
 {
-    let t = a + b + c;
+    let carry_in = u64::from(c);
+    let ar = a.wrapping_add(b).wrapping_add(Register::new(carry_in));
+    let carry = a.last::<24>().bits() + b.last::<24>().bits() + carry_in;
     Sum {
-        word: t % WORD_RANGE,
-        over: unequal(t / WORD_RANGE % 2, t / BIT_0 % 2),
-        carry: (a % WORD_RANGE + b % WORD_RANGE + c) / WORD_RANGE,
+        word: ar.word(),
+        over: ar.overflow(),
+        carry: (carry / LONG_WORD_RANGE) as u32,
     }
 }
 
 // WA, BA and the first sum of AA.
+#[tactic(auto, unfolding(crate::specs::Sums::sum, crate::specs::Sums::sum_with_carry))]
 pub fn add(a: u32, b: u32) -> Sum
     requires { (a < 2 ^ 24) × (b < 2 ^ 24) }
     ensures value { result ≡ sum a b }
     ensures bounds { (result.word < 2 ^ 24) × (result.over < 2) × (result.carry < 2) }
 {
-    add_once(registers::signed25(a), registers::signed25(b), 0)
+    add_with_carry(a, b, 0)
 }
 
-// WS, BS, AC and the first difference of SS.
+// WS, BS, AC and the first difference of SS: A - B is A + not B + 1.
+#[tactic(auto, unfolding(crate::specs::Sums::difference, crate::specs::Sums::difference_with_carry))]
 pub fn subtract(a: u32, b: u32) -> Sum
     requires { (a < 2 ^ 24) × (b < 2 ^ 24) }
     ensures value { result ≡ difference a b }
     ensures bounds { (result.word < 2 ^ 24) × (result.over < 2) × (result.carry < 2) }
 {
-    add_once(registers::signed25(a), 33554431 - registers::signed25(b), 1)
+    subtract_with_carry(a, b, 1)
 }
 
 // The second sum of AA, with the carry of the first.
+#[tactic(auto, unfolding(crate::specs::Sums::sum_with_carry))]
 pub fn add_with_carry(a: u32, b: u32, c: u32) -> Sum
     requires { (a < 2 ^ 24) × (b < 2 ^ 24) × (c < 2) }
     ensures value { result ≡ sum_with_carry a b c }
     ensures bounds { (result.word < 2 ^ 24) × (result.over < 2) × (result.carry < 2) }
 {
-    add_once(registers::signed25(a), registers::signed25(b), c)
+    add_once(signed25(a), signed25(b), c)
 }
 
 // The second difference of SS, with the carry of the first.
+#[tactic(auto, unfolding(crate::specs::Sums::difference_with_carry))]
 pub fn subtract_with_carry(a: u32, b: u32, c: u32) -> Sum
     requires { (a < 2 ^ 24) × (b < 2 ^ 24) × (c < 2) }
     ensures value { result ≡ difference_with_carry a b c }
     ensures bounds { (result.word < 2 ^ 24) × (result.over < 2) × (result.carry < 2) }
 {
-    add_once(registers::signed25(a), 33554431 - registers::signed25(b), c)
+    add_once(signed25(a), signed25(b).complement(), c)
 }
 
 // A sum of addresses: every carry out of 24 bits is dropped.
+#[tactic(auto, unfolding(crate::specs::Sums::sum24))]
 pub fn sum24(a: u32, b: u32) -> u32
     ensures value { result ≡ sum24 a b }
     ensures bound { result < word_range }
@@ -120,44 +119,48 @@ pub fn clear24(a: u32, b: u32) -> u32
 }
 
 // AR := signed W - signed SB
-fn compare(w: u32, sb: u32) -> u32
+fn compare(w: u32, sb: u32) -> Register<25>
     requires { (w < 2 ^ 24) × (sb < 2 ^ 24) }
     ensures { result ≡ comparison w sb }
 {
-    (registers::signed25(w) + (33554431 - registers::signed25(sb)) + 1) % 33554432
+    signed25(w).wrapping_sub(signed25(sb))
 }
 
 // SH
+#[tactic(auto, unfolding(crate::specs::Skip::is_high))]
 pub fn is_high(w: u32, sb: u32) -> bool
     requires { (w < 2 ^ 24) × (sb < 2 ^ 24) }
     ensures { result ≡ is_high w sb }
 {
-    let ar = compare(w, sb);
-    0 < ar && ar < WORD_RANGE
+    let ar = compare(w, sb).bits();
+    0 < ar && ar < LONG_WORD_RANGE
 }
 
 // SL
+#[tactic(auto, unfolding(crate::specs::Skip::is_low))]
 pub fn is_low(w: u32, sb: u32) -> bool
     requires { (w < 2 ^ 24) × (sb < 2 ^ 24) }
     ensures { result ≡ is_low w sb }
 {
-    WORD_RANGE <= compare(w, sb)
+    LONG_WORD_RANGE <= compare(w, sb).bits()
 }
 
 // SE
+#[tactic(auto, unfolding(crate::specs::Skip::is_equal))]
 pub fn is_equal(w: u32, sb: u32) -> bool
     requires { (w < 2 ^ 24) × (sb < 2 ^ 24) }
     ensures { result ≡ is_equal w sb }
 {
-    compare(w, sb) == 0
+    compare(w, sb).bits() == 0
 }
 
 // SN
+#[tactic(auto, unfolding(crate::specs::Skip::is_equal, crate::specs::Skip::is_not_equal))]
 pub fn is_not_equal(w: u32, sb: u32) -> bool
     requires { (w < 2 ^ 24) × (sb < 2 ^ 24) }
     ensures { result ≡ is_not_equal w sb }
 {
-    compare(w, sb) != 0
+    !is_equal(w, sb)
 }
 
 // SO

@@ -1,17 +1,16 @@
 // Integer arithmetic, logical operations and shifts (14.8): each function does the micro-operations of its meaning, in their order.
-#![tactic(auto)]
+#![tactic(auto, unfolding(definition_instructions::specs::Codes::execute, definition_instructions::specs::Meaning::meaning, definition_instructions::specs::MicroOps::execute_operation, definition_instructions::specs::MicroOps::micro_step, definition_instructions::specs::MicroOps::micro_steps, definition_instructions::specs::MicroOps::monitor_step, definition_instructions::specs::MicroOps::monitor_steps, definition_times::specs::Times::operation_time))]
 
 ghost use Rattle.std.specs.Prelude.{◌≡◌, ◌<◌};
 ghost use Rattle.registers.specs.Reg.{word_range};
 ghost use Rattle.machine.specs.Fields.{overflowed, carry_set};
 ghost use Rattle.definition_instructions.specs.Operands.{integer_overflow};
-ghost use Rattle.control_row.specs.Row.{control_at, IsRow};
 ghost use Rattle.control_row.specs.Endings.{ending, ending_of};
 ghost use Rattle.definition_instructions.specs.Codes.{execute};
 ghost use Rattle.definition_instructions.specs.Meaning.{AC, BA, BS, WA, WS, WM, WD, AA, SS, LA, LO, LX, AS, AD, LS, LD, NS, ND};
 ghost use Rattle.definition_instructions.specs.Machine.{computer};
 ghost use Rattle.definition_times.specs.Times.{operation_time};
-ghost use Rattle.timer_row.specs.Row.{clock_at, passing, IsClock};
+ghost use Rattle.timer_row.specs.Row.{passing};
 
 use control_row::{End, Row};
 use integer::Sum;
@@ -20,21 +19,18 @@ use timer_row::Clock;
 
 // Test Integer.
 fn test_integer(k: &mut Row, r: Sum)
-    requires { IsRow k.old }
-    ensures value { control_at k.new ≡ carry_set (overflowed (control_at k.old) r.over integer_overflow) r.carry }
-    ensures kept { IsRow k.new }
+    ensures { k.new ≡ carry_set (overflowed k.old r.over integer_overflow) r.carry }
 {
-    control_row::note_overflow(k, r.over, INTEGER_OVERFLOW);
-    control_row::note_carry(k, r.carry);
+    k.note_overflow(r.over, INTEGER_OVERFLOW);
+    k.note_carry(r.carry);
 }
 
 // Load Address Complemented.
 pub fn ac(s: &mut [u32], k: &mut Row, w: u32, sb: u32) -> End
-    requires { (sb < word_range) × IsRow k.old }
-    ensures value { ending_of result s.new (control_at k.new) ≡ ending (execute AC w sb s.old (control_at k.old)) }
-    ensures kept { IsRow k.new }
+    requires { sb < word_range }
+    ensures { ending_of result s.new k.new ≡ ending (execute AC w sb s.old k.old) }
 {
-    control_row::clear_flags(k);
+    k.clear_flags();
     let r = integer::subtract(0, sb);
     machine::put_word(s, w, r.word);
     test_integer(k, r);
@@ -43,11 +39,9 @@ pub fn ac(s: &mut [u32], k: &mut Row, w: u32, sb: u32) -> End
 
 // Add Integer Byte.
 pub fn ba(s: &mut [u32], k: &mut Row, w: u32, sb: u32) -> End
-    requires { IsRow k.old }
-    ensures value { ending_of result s.new (control_at k.new) ≡ ending (execute BA w sb s.old (control_at k.old)) }
-    ensures kept { IsRow k.new }
+    ensures { ending_of result s.new k.new ≡ ending (execute BA w sb s.old k.old) }
 {
-    control_row::clear_flags(k);
+    k.clear_flags();
     if machine::is_absent(s, sb) {
         return End::Faulted;
     }
@@ -62,11 +56,9 @@ pub fn ba(s: &mut [u32], k: &mut Row, w: u32, sb: u32) -> End
 
 // Subtract Integer Byte.
 pub fn bs(s: &mut [u32], k: &mut Row, w: u32, sb: u32) -> End
-    requires { IsRow k.old }
-    ensures value { ending_of result s.new (control_at k.new) ≡ ending (execute BS w sb s.old (control_at k.old)) }
-    ensures kept { IsRow k.new }
+    ensures { ending_of result s.new k.new ≡ ending (execute BS w sb s.old k.old) }
 {
-    control_row::clear_flags(k);
+    k.clear_flags();
     if machine::is_absent(s, sb) {
         return End::Faulted;
     }
@@ -81,11 +73,9 @@ pub fn bs(s: &mut [u32], k: &mut Row, w: u32, sb: u32) -> End
 
 // Add Integer Word.
 pub fn wa(s: &mut [u32], k: &mut Row, w: u32, sb: u32) -> End
-    requires { IsRow k.old }
-    ensures value { ending_of result s.new (control_at k.new) ≡ ending (execute WA w sb s.old (control_at k.old)) }
-    ensures kept { IsRow k.new }
+    ensures { ending_of result s.new k.new ≡ ending (execute WA w sb s.old k.old) }
 {
-    control_row::clear_flags(k);
+    k.clear_flags();
     if machine::is_absent(s, sb) {
         return End::Faulted;
     }
@@ -99,11 +89,9 @@ pub fn wa(s: &mut [u32], k: &mut Row, w: u32, sb: u32) -> End
 
 // Subtract Integer Word.
 pub fn ws(s: &mut [u32], k: &mut Row, w: u32, sb: u32) -> End
-    requires { IsRow k.old }
-    ensures value { ending_of result s.new (control_at k.new) ≡ ending (execute WS w sb s.old (control_at k.old)) }
-    ensures kept { IsRow k.new }
+    ensures { ending_of result s.new k.new ≡ ending (execute WS w sb s.old k.old) }
 {
-    control_row::clear_flags(k);
+    k.clear_flags();
     if machine::is_absent(s, sb) {
         return End::Faulted;
     }
@@ -117,9 +105,7 @@ pub fn ws(s: &mut [u32], k: &mut Row, w: u32, sb: u32) -> End
 
 // Multiply Integer Word: EX is unchanged.
 pub fn wm(s: &mut [u32], k: &mut Row, w: u32, sb: u32) -> End
-    requires { IsRow k.old }
-    ensures value { ending_of result s.new (control_at k.new) ≡ ending (execute WM w sb s.old (control_at k.old)) }
-    ensures kept { IsRow k.new }
+    ensures { ending_of result s.new k.new ≡ ending (execute WM w sb s.old k.old) }
 {
     if machine::is_absent(s, sb) {
         return End::Faulted;
@@ -133,11 +119,9 @@ pub fn wm(s: &mut [u32], k: &mut Row, w: u32, sb: u32) -> End
 
 // Divide Integer Word.
 pub fn wd(s: &mut [u32], k: &mut Row, w: u32, sb: u32) -> End
-    requires { IsRow k.old }
-    ensures value { ending_of result s.new (control_at k.new) ≡ ending (execute WD w sb s.old (control_at k.old)) }
-    ensures kept { IsRow k.new }
+    ensures { ending_of result s.new k.new ≡ ending (execute WD w sb s.old k.old) }
 {
-    control_row::clear_flags(k);
+    k.clear_flags();
     if machine::is_absent(s, sb) {
         return End::Faulted;
     }
@@ -146,7 +130,7 @@ pub fn wd(s: &mut [u32], k: &mut Row, w: u32, sb: u32) -> End
     let x = machine::word_at(s, w);
     let y = machine::word_at(s, sb / 2);
     let r = divide::divide(u, x, y);
-    control_row::note_overflow(k, r.over, INTEGER_OVERFLOW);
+    k.note_overflow(r.over, INTEGER_OVERFLOW);
     machine::put_word(s, p, r.pre);
     machine::put_word(s, w, r.word);
     End::Done
@@ -154,11 +138,9 @@ pub fn wd(s: &mut [u32], k: &mut Row, w: u32, sb: u32) -> End
 
 // Add Integer Double Word: the first word is read after W was written.
 pub fn aa(s: &mut [u32], k: &mut Row, w: u32, sb: u32) -> End
-    requires { IsRow k.old }
-    ensures value { ending_of result s.new (control_at k.new) ≡ ending (execute AA w sb s.old (control_at k.old)) }
-    ensures kept { IsRow k.new }
+    ensures { ending_of result s.new k.new ≡ ending (execute AA w sb s.old k.old) }
 {
-    control_row::clear_flags(k);
+    k.clear_flags();
     if machine::is_absent(s, sb) {
         return End::Faulted;
     }
@@ -178,11 +160,9 @@ pub fn aa(s: &mut [u32], k: &mut Row, w: u32, sb: u32) -> End
 
 // Subtract Integer Double Word: the first word is read after W was written.
 pub fn ss(s: &mut [u32], k: &mut Row, w: u32, sb: u32) -> End
-    requires { IsRow k.old }
-    ensures value { ending_of result s.new (control_at k.new) ≡ ending (execute SS w sb s.old (control_at k.old)) }
-    ensures kept { IsRow k.new }
+    ensures { ending_of result s.new k.new ≡ ending (execute SS w sb s.old k.old) }
 {
-    control_row::clear_flags(k);
+    k.clear_flags();
     if machine::is_absent(s, sb) {
         return End::Faulted;
     }
@@ -202,9 +182,7 @@ pub fn ss(s: &mut [u32], k: &mut Row, w: u32, sb: u32) -> End
 
 // Logical And.
 pub fn la(s: &mut [u32], k: &mut Row, w: u32, sb: u32) -> End
-    requires { IsRow k.old }
-    ensures value { ending_of result s.new (control_at k.new) ≡ ending (execute LA w sb s.old (control_at k.old)) }
-    ensures kept { IsRow k.new }
+    ensures { ending_of result s.new k.new ≡ ending (execute LA w sb s.old k.old) }
 {
     if machine::is_absent(s, sb) {
         return End::Faulted;
@@ -218,9 +196,7 @@ pub fn la(s: &mut [u32], k: &mut Row, w: u32, sb: u32) -> End
 
 // Logical Or.
 pub fn lo(s: &mut [u32], k: &mut Row, w: u32, sb: u32) -> End
-    requires { IsRow k.old }
-    ensures value { ending_of result s.new (control_at k.new) ≡ ending (execute LO w sb s.old (control_at k.old)) }
-    ensures kept { IsRow k.new }
+    ensures { ending_of result s.new k.new ≡ ending (execute LO w sb s.old k.old) }
 {
     if machine::is_absent(s, sb) {
         return End::Faulted;
@@ -234,9 +210,7 @@ pub fn lo(s: &mut [u32], k: &mut Row, w: u32, sb: u32) -> End
 
 // Logical Exclusive Or.
 pub fn lx(s: &mut [u32], k: &mut Row, w: u32, sb: u32) -> End
-    requires { IsRow k.old }
-    ensures value { ending_of result s.new (control_at k.new) ≡ ending (execute LX w sb s.old (control_at k.old)) }
-    ensures kept { IsRow k.new }
+    ensures { ending_of result s.new k.new ≡ ending (execute LX w sb s.old k.old) }
 {
     if machine::is_absent(s, sb) {
         return End::Faulted;
@@ -250,37 +224,34 @@ pub fn lx(s: &mut [u32], k: &mut Row, w: u32, sb: u32) -> End
 
 // Shift Single Arithmetically (AS; `as` is a word of the language).
 pub fn shift_as(s: &mut [u32], k: &mut Row, w: u32, sb: u32) -> End
-    requires { (sb < word_range) × IsRow k.old }
-    ensures value { ending_of result s.new (control_at k.new) ≡ ending (execute AS w sb s.old (control_at k.old)) }
-    ensures kept { IsRow k.new }
+    requires { sb < word_range }
+    ensures { ending_of result s.new k.new ≡ ending (execute AS w sb s.old k.old) }
 {
-    control_row::clear_flags(k);
+    k.clear_flags();
     let x = machine::word_at(s, w);
     let r = shift::arithmetic24(sb, x);
-    control_row::note_overflow(k, r.over, INTEGER_OVERFLOW);
+    k.note_overflow(r.over, INTEGER_OVERFLOW);
     machine::put_long(s, w, r.word);
     End::Done
 }
 
 // Shift Double Arithmetically.
 pub fn ad(s: &mut [u32], k: &mut Row, w: u32, sb: u32) -> End
-    requires { (sb < word_range) × IsRow k.old }
-    ensures value { ending_of result s.new (control_at k.new) ≡ ending (execute AD w sb s.old (control_at k.old)) }
-    ensures kept { IsRow k.new }
+    requires { sb < word_range }
+    ensures { ending_of result s.new k.new ≡ ending (execute AD w sb s.old k.old) }
 {
-    control_row::clear_flags(k);
+    k.clear_flags();
     let x = machine::pair_at(s, w);
     let r = shift::arithmetic48(sb, x);
-    control_row::note_overflow(k, r.over, INTEGER_OVERFLOW);
+    k.note_overflow(r.over, INTEGER_OVERFLOW);
     machine::put_pair(s, w, r.word);
     End::Done
 }
 
 // Shift Single Logically.
 pub fn ls(s: &mut [u32], k: &mut Row, w: u32, sb: u32) -> End
-    requires { (sb < word_range) × IsRow k.old }
-    ensures value { ending_of result s.new (control_at k.new) ≡ ending (execute LS w sb s.old (control_at k.old)) }
-    ensures kept { IsRow k.new }
+    requires { sb < word_range }
+    ensures { ending_of result s.new k.new ≡ ending (execute LS w sb s.old k.old) }
 {
     let x = machine::word_at(s, w);
     let r = shift::logical24(sb, x);
@@ -290,9 +261,8 @@ pub fn ls(s: &mut [u32], k: &mut Row, w: u32, sb: u32) -> End
 
 // Shift Double Logically.
 pub fn ld(s: &mut [u32], k: &mut Row, w: u32, sb: u32) -> End
-    requires { (sb < word_range) × IsRow k.old }
-    ensures value { ending_of result s.new (control_at k.new) ≡ ending (execute LD w sb s.old (control_at k.old)) }
-    ensures kept { IsRow k.new }
+    requires { sb < word_range }
+    ensures { ending_of result s.new k.new ≡ ending (execute LD w sb s.old k.old) }
 {
     let x = machine::pair_at(s, w);
     let r = shift::logical48(sb, x);
@@ -302,21 +272,18 @@ pub fn ld(s: &mut [u32], k: &mut Row, w: u32, sb: u32) -> End
 
 // Normalize Single: the byte is stored after the shift.
 pub fn ns(s: &mut [u32], k: &mut Row, t: &mut Clock, w: u32, sb: u32) -> End
-    requires { IsRow k.old × IsClock t.old }
-    ensures value { ending_of result s.new (control_at k.new) ≡ ending (execute NS w sb s.old (control_at k.old)) }
-    ensures kept { IsRow k.new }
-    ensures time { clock_at t.new ≡ passing (operation_time NS sb w (computer s.old (control_at k.old))) (clock_at t.old) }
-    ensures clock { IsClock t.new }
+    ensures value { ending_of result s.new k.new ≡ ending (execute NS w sb s.old k.old) }
+    ensures time { t.new ≡ passing (operation_time NS sb w (computer s.old k.old)) t.old }
 {
     let x = machine::word_at(s, w);
     let r = normalize::normalize_single(x);
     let n = normalize::shifts_made(r.shifts);
-    timer_row::advance(t, 50 + 5 * n);
+    t.advance(50 + 5 * n);
     machine::put_long(s, w, r.word);
     if machine::is_absent(s, sb) {
         return End::Faulted;
     }
-    if control_row::is_violation(s, k, sb / 2) {
+    if k.is_violation(s, sb / 2) {
         return End::Faulted;
     }
     machine::put_byte(s, sb, r.shifts);
@@ -325,21 +292,18 @@ pub fn ns(s: &mut [u32], k: &mut Row, t: &mut Clock, w: u32, sb: u32) -> End
 
 // Normalize Double: the byte is stored after the shift.
 pub fn nd(s: &mut [u32], k: &mut Row, t: &mut Clock, w: u32, sb: u32) -> End
-    requires { IsRow k.old × IsClock t.old }
-    ensures value { ending_of result s.new (control_at k.new) ≡ ending (execute ND w sb s.old (control_at k.old)) }
-    ensures kept { IsRow k.new }
-    ensures time { clock_at t.new ≡ passing (operation_time ND sb w (computer s.old (control_at k.old))) (clock_at t.old) }
-    ensures clock { IsClock t.new }
+    ensures value { ending_of result s.new k.new ≡ ending (execute ND w sb s.old k.old) }
+    ensures time { t.new ≡ passing (operation_time ND sb w (computer s.old k.old)) t.old }
 {
     let x = machine::pair_at(s, w);
     let r = normalize::normalize_double(x);
     let n = normalize::shifts_made(r.shifts);
-    timer_row::advance(t, 55 + 5 * n);
+    t.advance(55 + 5 * n);
     machine::put_pair(s, w, r.word);
     if machine::is_absent(s, sb) {
         return End::Faulted;
     }
-    if control_row::is_violation(s, k, sb / 2) {
+    if k.is_violation(s, sb / 2) {
         return End::Faulted;
     }
     machine::put_byte(s, sb, r.shifts);

@@ -19,6 +19,10 @@ pub request_step : (ir im p : ℕ) → p < 24 → first_request (24 - p) p ir im
 unfolding first_request
 request_step ir im p h = rw (fuel 24 p h)
 
+pub no_step : (n p ir im : ℕ) → n ≡ 0 → first_request n p ir im ≡ p
+unfolding first_request
+no_step n p ir im z = rw z
+
 -- two registers whose last bits are one have a bit in common
 common_bit : (a b : ℕ) → bit_and a b ≡ 0 → a % 2 ≡ 1 → b % 2 ≡ 1 → ⊥
 common_bit a b z p q =
@@ -55,15 +59,3 @@ either_way false x y e = refl
 pub line_none : (c : Control) (ir im : ℕ) → ir ≡ c.ir → im ≡ c.im → bit_and ir im ≡ 0 → 24 ≡ line_of c
 unfolding line_of
 line_none c ir im e f z = either_way (looks_at_lines c) 24 _ (no_request c.ir c.im (rw (e, f) at z))
-
-pub line_first : (c : Control) (ir im r : ℕ) → ir ≡ c.ir → im ≡ c.im → c.enabled ≡ true → c.pending ≡ 0 → r ≡ first_request 24 0 ir im → r ≡ line_of c
-unfolding line_of looks_at_lines
-line_first c ir im r e f a p h = rw (a, eq-eqb c.pending 0 p, ← e, ← f) h
-
-pub line_pending : (c : Control) → c.enabled ≡ true → (c.pending ≡ 0 → ⊥) → 24 ≡ line_of c
-unfolding line_of looks_at_lines
-line_pending c a p = rw (a, ne_eqb c.pending 0 p)
-
-pub line_disabled : (c : Control) → c.enabled ≡ false → 24 ≡ line_of c
-unfolding line_of looks_at_lines
-line_disabled c a = rw a

@@ -1,10 +1,9 @@
 // The line to be taken and the entry of an interruption (14.5).
-#![tactic(auto)]
+#![tactic(auto, unfolding(definition_runs::specs::Cycle::bit_from_left, definition_runs::specs::Cycle::requested, definition_runs::specs::Cycle::first_request, definition_runs::specs::Cycle::line_of, definition_runs::specs::Cycle::looks_at_lines, definition_runs::specs::Cycle::bit_alone, definition_runs::specs::Cycle::line_cleared, definition_runs::specs::Cycle::enter, definition_runs::specs::Cycle::entry_control))]
 
-ghost use Rattle.std.specs.Prelude.{◌≡◌, ◌<◌, ◌≤◌};
+ghost use Rattle.std.specs.Prelude.{◌≡◌, ◌<◌, ◌≤◌, MatchOption};
 ghost use Rattle.definition_instructions.specs.Machine.{computer};
 ghost use Rattle.definition_runs.specs.Cycle.{bit_from_left, requested, first_request, line_of, bit_alone, line_cleared, enter};
-ghost use Rattle.control_row.specs.Row.{control_at, IsRow};
 
 use control_row::Row;
 use machine::Control;
@@ -20,43 +19,37 @@ fn is_requested(ir: u32, im: u32, p: u32) -> bool
     requires { p < 24 }
     ensures { result ≡ requested ir im p }
 {
-    let a = bit_from_left(ir, p);
-    let b = bit_from_left(im, p);
-    if a == 1 { b == 1 } else { false }
+    bit_from_left(ir, p) == 1 && bit_from_left(im, p) == 1
 }
 
-// The left-most line that is requested, or 24.
-fn first_request(ir: u32, im: u32) -> u32
-    ensures value { result ≡ first_request 24 0 ir im }
-    ensures bound { result ≤ 24 }
+// The left-most line that is requested.
+fn first_request(ir: u32, im: u32) -> Option<u32>
+    ensures { MatchOption result (first_request 24 0 ir im ≡ 24) (λ p. (p < 24) × (first_request 24 0 ir im ≡ p)) }
 {
-    let mut p: u32 = 0;
-    while p < 24 {
+    for p in 0..24 {
         if is_requested(ir, im, p) {
-            return p;
+            return Some(p);
         }
-        p += 1;
     }
-    p
+    None
 }
 
-// The line to be taken, or 24. The positions are looked through only where some line is requested.
-pub fn line_of(k: &Row) -> u32
-    ensures value { result ≡ line_of (control_at k.now) }
-    ensures bound { result ≤ 24 }
+// The line to be taken. The positions are looked through only where some line is requested.
+pub fn line_of(k: &Row) -> Option<u32>
+    ensures { MatchOption result (line_of k.now ≡ 24) (λ p. (p < 24) × (line_of k.now ≡ p)) }
 {
-    if control_row::is_enabled(k) {
-        let ir = control_row::ir(k);
-        let im = control_row::im(k);
-        if ir & im == 0 {
-            return 24;
-        }
-        if control_row::pending(k) == 0 {
-            return first_request(ir, im);
-        }
-        return 24;
+    if !k.is_enabled() {
+        return None;
     }
-    24
+    let ir = k.ir();
+    let im = k.im();
+    if ir & im == 0 {
+        return None;
+    }
+    if k.pending() != 0 {
+        return None;
+    }
+    first_request(ir, im)
 }
 
 fn bit_alone(x: u32, p: u32) -> u32
@@ -68,27 +61,22 @@ fn bit_alone(x: u32, p: u32) -> u32
 }
 
 pub fn clear_line(k: &mut Row, p: u32)
-    requires { (p < 24) × IsRow k.old }
-    ensures value { control_at k.new ≡ line_cleared (control_at k.old) p }
-    ensures kept { IsRow k.new }
+    requires { p < 24 }
+    ensures { k.new ≡ line_cleared k.old p }
 {
-    let x = control_row::ir(k);
-    let b = bit_alone(x, p);
-    control_row::set_ir(k, x - b);
+    let x = k.ir();
+    k.set_ir(x - bit_alone(x, p));
 }
 
 // An interruption is entered with its number.
 pub fn enter(s: &mut [u32], n: u32, k: &mut Row)
-    requires { IsRow k.old }
-    ensures value { computer s.new (control_at k.new) ≡ enter n s.old (control_at k.old) }
-    ensures kept { IsRow k.new }
+    ensures { computer s.new k.new ≡ enter n s.old k.old }
 {
     machine::put_word(s, Control::INTERRUPT_NUMBER / 2, n);
-    let x = control_row::ic(k);
-    machine::put_word(s, Control::RETURN_ADDRESS / 2, x);
+    machine::put_word(s, Control::RETURN_ADDRESS / 2, k.ic());
     let a = machine::word_at(s, Control::INTERRUPTION_PROGRAM / 2);
-    control_row::set_ic(k, a / 2 * 2);
-    control_row::set_pending(k, 0);
-    control_row::set_monitor(k, true);
-    control_row::set_enabled(k, false);
+    k.set_ic(a / 2 * 2);
+    k.set_pending(0);
+    k.set_monitor(true);
+    k.set_enabled(false);
 }

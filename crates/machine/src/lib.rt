@@ -59,19 +59,16 @@ impl Control {
     }
 
     // The control registers in the reset state: nothing pending, monitor mode, interrupts disabled.
+    #[tactic(auto, unfolding(crate::specs::Records::reset_control))]
     pub fn in_reset(self) -> Control
         ensures { result ≡ reset_control self }
     {
         Control {
-            ic: self.ic,
-            ir: self.ir,
-            im: self.im,
             pending: 0,
-            pr: self.pr,
-            ex: self.ex,
             monitor: true,
             enabled: false,
             reset: true,
+            ..self
         }
     }
 }
@@ -114,11 +111,9 @@ impl Record {
     pub fn fresh() -> Record
         ensures { result ≡ fresh_record }
     {
-        let c = Control::fresh();
-        let t = Timer::off();
         Record {
-            registers: c,
-            timer: t,
+            registers: Control::fresh(),
+            timer: Timer::off(),
         }
     }
 }
@@ -142,6 +137,7 @@ pub struct Instruction {
 }
 
 impl Instruction {
+    #[tactic(auto, unfolding(crate::specs::Format::instruction_fields))]
     pub fn of_word(v: u32) -> Instruction
         ensures { result ≡ instruction_fields v }
     {
@@ -192,81 +188,45 @@ pub enum Outcome {
     Spent,
 }
 
-// The numbered refusals: 1 to 12 of document 01, "Who can be refused, for what", from 13 on of document 02; in the order of their numbers.
+// The numbered refusals: 1 to 12 of document 01, "Who can be refused, for what", from 13 on of document 02; by their numbers.
 #[derive(Clone, Copy)]
 pub enum Refusal {
-    StoreSize,
-    CellValue,
-    ControlField,
-    Lines,
-    Budget,
-    TapeEnds,
-    RecordKind,
-    RecordLength,
-    BlockPlace,
-    BlockCell,
-    RecordOrder,
-    TapeLength,
-    Device,
-    RemarkLength,
-    WrittenLength,
-    BufferLength,
-    BlockOverlap,
-    TimerField,
-    LineGrammar,
-    LineDepth,
-    LineValue,
+    StoreSize = 1,
+    CellValue = 2,
+    ControlField = 3,
+    Lines = 4,
+    Budget = 5,
+    TapeEnds = 6,
+    RecordKind = 7,
+    RecordLength = 8,
+    BlockPlace = 9,
+    BlockCell = 10,
+    RecordOrder = 11,
+    TapeLength = 12,
+    Device = 13,
+    RemarkLength = 14,
+    WrittenLength = 15,
+    BufferLength = 16,
+    BlockOverlap = 17,
+    TimerField = 18,
+    LineGrammar = 19,
+    LineDepth = 20,
+    LineValue = 21,
 }
 
 impl Refusal {
     pub fn number(self) -> u32
         ensures { result ≡ refusal_number self }
     {
-        match self {
-            Refusal::StoreSize => 1,
-            Refusal::CellValue => 2,
-            Refusal::ControlField => 3,
-            Refusal::Lines => 4,
-            Refusal::Budget => 5,
-            Refusal::TapeEnds => 6,
-            Refusal::RecordKind => 7,
-            Refusal::RecordLength => 8,
-            Refusal::BlockPlace => 9,
-            Refusal::BlockCell => 10,
-            Refusal::RecordOrder => 11,
-            Refusal::TapeLength => 12,
-            Refusal::Device => 13,
-            Refusal::RemarkLength => 14,
-            Refusal::WrittenLength => 15,
-            Refusal::BufferLength => 16,
-            Refusal::BlockOverlap => 17,
-            Refusal::TimerField => 18,
-            Refusal::LineGrammar => 19,
-            Refusal::LineDepth => 20,
-            Refusal::LineValue => 21,
-        }
+        self as u32
     }
-}
-
-// What the tests of a call came to.
-#[derive(Clone, Copy)]
-pub enum Verdict {
-    Accepted,
-    Rejected(Refusal),
-}
-
-// What a run answers.
-#[derive(Clone, Copy)]
-pub enum Answer {
-    Refused(Refusal),
-    Ended(Outcome),
 }
 
 // What a run hands back: `taken` of the reader's characters, `typed` bytes at the front of the typing buffer.
 #[derive(Clone, Copy)]
 pub struct Run {
     pub control: Record,
-    pub answer: Answer,
+    pub answer: Result<Outcome, Refusal>,
     pub executed: u32,
     pub entries: u32,
     pub devices: Devices,
@@ -274,18 +234,18 @@ pub struct Run {
     pub typed: usize,
 }
 
-// What the reset key, the start key and the loader hand back.
+// What the reset key, the start key and the loader hand back: on a refusal the given control record, which so stands beside the verdict.
 #[derive(Clone, Copy)]
 pub struct State {
     pub control: Record,
-    pub verdict: Verdict,
+    pub verdict: Result<(), Refusal>,
 }
 
-// What the autoload key hands back.
+// What the autoload key hands back, the control record on a refusal too.
 #[derive(Clone, Copy)]
 pub struct Autoloaded {
     pub control: Record,
-    pub verdict: Verdict,
+    pub verdict: Result<(), Refusal>,
     pub devices: Devices,
     pub taken: usize,
 }
@@ -293,8 +253,7 @@ pub struct Autoloaded {
 pub fn cell_at(s: &[u32], i: u32) -> u32
     ensures { result ≡ get_or s.now i 0 }
 {
-    let j = i as usize;
-    if j < s.len() { s[j] } else { 0 }
+    s.get(i as usize).copied().unwrap_or(0)
 }
 
 pub fn put_cell(s: &mut [u32], i: u32, v: u32)
@@ -306,6 +265,7 @@ pub fn put_cell(s: &mut [u32], i: u32, v: u32)
     }
 }
 
+#[tactic(auto, unfolding(crate::specs::Store::word))]
 pub fn word_at(s: &[u32], i: u32) -> u32
     ensures value { result ≡ word s.now i }
     ensures bound { result < word_range }
@@ -313,6 +273,7 @@ pub fn word_at(s: &[u32], i: u32) -> u32
     cell_at(s, i) % WORD_RANGE
 }
 
+#[tactic(auto, unfolding(crate::specs::Store::key))]
 pub fn key_at(s: &[u32], i: u32) -> u32
     ensures { result ≡ key s.now i }
 {
@@ -331,37 +292,29 @@ fn with_key(x: u32, k: u32) -> u32
     k % 8 * WORD_RANGE + x % WORD_RANGE
 }
 
+#[tactic(auto, unfolding(crate::specs::Store::put_word))]
 pub fn put_word(s: &mut [u32], i: u32, v: u32)
     ensures { s.new ≡ put_word s.old i v }
 {
-    let x = cell_at(s, i);
-    let y = with_word(x, v);
-    put_cell(s, i, y);
-}
-
-fn with_long(x: u32, v: u64) -> u32
-    ensures { result ≡ x / word_range * word_range + v % word_range }
-{
-    x / WORD_RANGE * WORD_RANGE + (v % LONG_WORD_RANGE) as u32
+    put_cell(s, i, with_word(cell_at(s, i), v));
 }
 
 // The last 24 bits of a double-length register go in.
+#[tactic(auto, unfolding(crate::specs::Store::put_word))]
 pub fn put_long(s: &mut [u32], i: u32, v: u64)
     ensures { s.new ≡ put_word s.old i v }
 {
-    let x = cell_at(s, i);
-    let y = with_long(x, v);
-    put_cell(s, i, y);
+    put_word(s, i, (v % LONG_WORD_RANGE) as u32);
 }
 
+#[tactic(auto, unfolding(crate::specs::Store::put_key))]
 pub fn put_key(s: &mut [u32], i: u32, k: u32)
     ensures { s.new ≡ put_key s.old i k }
 {
-    let x = cell_at(s, i);
-    let y = with_key(x, k);
-    put_cell(s, i, y);
+    put_cell(s, i, with_key(cell_at(s, i), k));
 }
 
+#[tactic(auto, unfolding(crate::specs::Store::byte))]
 pub fn byte_at(s: &[u32], a: u32) -> u32
     ensures value { result ≡ byte s.now a }
     ensures bound { result < 4096 }
@@ -370,6 +323,7 @@ pub fn byte_at(s: &[u32], a: u32) -> u32
     if a % 2 == 0 { x / 4096 } else { x % 4096 }
 }
 
+#[tactic(auto, unfolding(crate::specs::Store::with_byte))]
 fn with_byte(x: u32, a: u32, v: u32) -> u32
     ensures { result ≡ with_byte x a v }
 {
@@ -380,12 +334,11 @@ fn with_byte(x: u32, a: u32, v: u32) -> u32
     }
 }
 
+#[tactic(auto, unfolding(crate::specs::Store::put_byte))]
 pub fn put_byte(s: &mut [u32], a: u32, v: u32)
     ensures { s.new ≡ put_byte s.old a v }
 {
-    let x = word_at(s, a / 2);
-    let y = with_byte(x, a, v);
-    put_word(s, a / 2, y);
+    put_word(s, a / 2, with_byte(word_at(s, a / 2), a, v));
 }
 
 fn joined(pre: u32, w: u32) -> u64
@@ -393,44 +346,42 @@ fn joined(pre: u32, w: u32) -> u64
     ensures value { result ≡ pre * word_range + w }
     ensures bound { result < 281474976710656 }
 {
-    (pre as u64) * LONG_WORD_RANGE + w as u64
+    u64::from(pre) * LONG_WORD_RANGE + u64::from(w)
 }
 
 // Wpre concat W.
+#[tactic(auto, unfolding(crate::specs::Store::pair))]
 pub fn pair_at(s: &[u32], w: u32) -> u64
     ensures value { result ≡ pair s.now w }
     ensures bound { result < 281474976710656 }
 {
-    let p = previous_register(w);
-    let a = word_at(s, p);
-    let b = word_at(s, w);
-    joined(a, b)
+    joined(word_at(s, previous_register(w)), word_at(s, w))
 }
 
 // Wpre concat W := v.
 pub fn put_pair(s: &mut [u32], w: u32, v: u64)
     ensures { s.new ≡ put_word (put_word s.old (previous w) (v / word_range)) w v }
 {
-    let p = previous_register(w);
-    put_long(s, p, v / LONG_WORD_RANGE);
+    put_long(s, previous_register(w), v / LONG_WORD_RANGE);
     put_long(s, w, v);
 }
 
 // if FR(6:7) <> 0 then W := v.
+#[tactic(auto, unfolding(crate::specs::Store::put_link))]
 pub fn put_link(s: &mut [u32], w: u32, v: u32)
     ensures { s.new ≡ put_link s.old w v }
 {
-    if w == 0 {
-        return;
+    if w != 0 {
+        put_word(s, w, v);
     }
-    put_word(s, w, v);
 }
 
 // Test Address: no cell has the address.
+#[tactic(auto, unfolding(crate::specs::Store::absent))]
 pub fn is_absent(s: &[u32], a: u32) -> bool
     ensures { result ≡ absent s.now a }
 {
-    ((a / 2) as usize) >= s.len()
+    (a / 2) as usize >= s.len()
 }
 
 // PR(PK) = 1.
@@ -441,6 +392,7 @@ pub fn is_key_forbidden(pr: u32, k: u32) -> bool
 }
 
 // The address of a double word's first word.
+#[tactic(auto, unfolding(crate::specs::Store::first_word))]
 pub fn first_word(a: u32) -> u32
     ensures { result ≡ first_word a }
 {
@@ -454,23 +406,18 @@ pub fn previous_register(w: u32) -> u32
     if w % 4 == 0 { 3 } else { w % 4 - 1 }
 }
 
+#[tactic(auto, unfolding(crate::specs::Fields::with_ir))]
 fn with_ir(c: Control, v: u32) -> Control
     ensures { result ≡ with_ir c v }
 {
     Control {
-        ic: c.ic,
         ir: v % WORD_RANGE,
-        im: c.im,
-        pending: c.pending,
-        pr: c.pr,
-        ex: c.ex,
-        monitor: c.monitor,
-        enabled: c.enabled,
-        reset: c.reset,
+        ..c
     }
 }
 
 // Bits join the interrupt register.
+#[tactic(auto, unfolding(crate::specs::Fields::raised))]
 pub fn raise(c: Control, bits: u32) -> Control
     ensures { result ≡ raised c bits }
 {

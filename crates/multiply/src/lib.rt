@@ -14,7 +14,7 @@ fn with_offset(x: u32) -> u32
     (x + BIT_0) % WORD_RANGE
 }
 
-// A word as a signed number.
+// A word as a signed number: an i64 at once, by `i64::from`, costs 2 host instructions more (docs/PERFORMANCE.md).
 fn signed_number(x: u32) -> i64
     requires { x < 2 ^ 24 }
     ensures { result ≡ pos ((x + 2 ^ 23) % 2 ^ 24) -ℤ pos (2 ^ 23) }
@@ -26,7 +26,7 @@ fn signed_number(x: u32) -> i64
 fn last_48_bits(p: u64) -> u64
     ensures { result ≡ p % 2 ^ 48 }
 {
-    p % 281474976710656
+    p % (1 << 48)
 }
 
 // WM: Wpre concat W, of W and the storage word. With 2^48 added the product is not negative, and has the same last 48 bits.
@@ -37,5 +37,5 @@ pub fn multiply(w: u32, s: u32) -> u64
 {
     let x = signed_number(w);
     let y = signed_number(s);
-    last_48_bits((x * y + 281474976710656) as u64)
+    last_48_bits((x * y + (1 << 48)) as u64)
 }

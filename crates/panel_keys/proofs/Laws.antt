@@ -11,7 +11,7 @@ use Rattle.machine.specs.declared.Control.{Control}
 use Rattle.machine.specs.declared.Record.{Record}
 use Rattle.machine.specs.declared.Devices.{Devices}
 use Rattle.machine.specs.declared.Refusal.{Refusal}
-use Rattle.machine.specs.declared.Verdict.TheVariants.{Accepted, Rejected}
+use Rattle.machine.specs.Verdicts.{Accepted, Rejected}
 use Rattle.acceptance.specs.Accept.{state_fits, judge_registers, judge_machine, devices_fit, judge_autoload}
 use Rattle.acceptance.proofs.Tests.{passed_timer, passed_devices}
 use Rattle.definition_instructions.specs.Machine.{computer, Channel, Machine, machine, Effect, ok, fault, reached}
@@ -69,15 +69,15 @@ end_machine_lem Faulted s c h x e f = ap end_machine e ∙ end_reached x
 end_machine_lem Reset s c h x e f = absurd (true≢false (sym (in_reset_lem c) ∙ ap (λ m. m.control.reset) (ap end_machine e ∙ end_reached x) ∙ f))
 
 -- what Autoload Word leaves is handed back, with the timer as it was
-pub key_made : (x : End) (s t : List ℕ) (r : Record) (d : Control) (h : Channel) (v : Devices) (cs ts : List ℕ) → judge_registers s r.registers ≡ Accepted
+pub key_made : (x : End) (s t : List ℕ) (r : Record) (d : Control) (h : Channel) (u v : Devices) (cs ts : List ℕ) → u ≡ registers_of h → judge_registers s r.registers ≡ Accepted
     → ending_with h (ending_of x t d) ≡ ending (device_steps 0 (autoloading 0 cs) (machine s (autoload_control r.registers) (lent v.reader v.typewriter cs ts)))
-    → key_returned (record { control = record { registers = d; timer = r.timer }; verdict = Accepted; devices = registers_of h; taken = length cs - length h.characters }) t
+    → key_returned (record { control = record { registers = d; timer = r.timer }; verdict = Accepted; devices = u; taken = length cs - length h.characters }) t
     ≡ key_handed_back cs (autoloaded (machine_lent s r v cs ts))
 unfolding key_handed_back
-key_made x s t r d h v cs ts a e =
+key_made x s t r d h u v cs ts f a e =
     let m = machine s (autoload_control r.registers) (lent v.reader v.typewriter cs ts) in
-    ap (λ n. key_handed_back cs (record { machine = timed r.timer n; verdict = Accepted }))
-    (end_machine_lem x t d h (device_steps 0 (autoloading 0 cs) m) e (live_devices 0 (autoloading 0 cs) m (omega arith) (live_autoload s r.registers a)).outside)
+    rw f (ap (λ n. key_handed_back cs (record { machine = timed r.timer n; verdict = Accepted }))
+    (end_machine_lem x t d h (device_steps 0 (autoloading 0 cs) m) e (live_devices 0 (autoloading 0 cs) m (omega arith) (live_autoload s r.registers a)).outside))
 
 pub key_in_reset : (s : List ℕ) (r : Record) (v : Devices) (cs ts : List ℕ) (x : KeyReturned) → r.registers.reset ≡ true → 4 ≤ length cs
     → x ≡ key_handed_back cs (autoloaded (machine_lent s r v cs ts)) → x ≡ key_handed_back cs (autoload_pressed (machine_lent s r v cs ts))

@@ -1,6 +1,6 @@
 -- For functions inside the crate: the autoload key pressed, and in the reset state with four characters left.
 -- Assumes nothing.
-use Rattle.machine.specs.declared.Verdict.TheVariants.{Accepted}
+use Rattle.machine.specs.Verdicts.{Accepted}
 use Rattle.definition_instructions.specs.Machine.{machine, reached}
 use Rattle.definition_instructions.specs.MicroOps.{device_steps}
 use Rattle.definition_instructions.specs.Meaning.{autoloading}

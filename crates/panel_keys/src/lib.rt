@@ -1,9 +1,9 @@
 // The reset, start and autoload keys (14.4), with their refusals. They take no time.
 #![tactic(auto)]
 
-ghost use Rattle.std.specs.Prelude.{◌≡◌, true, ◌<◌};
+ghost use Rattle.std.specs.Prelude.{◌≡◌, true, ◌<◌, []};
 ghost use Rattle.registers.specs.Reg.{word_range};
-ghost use Rattle.machine.specs.declared.Verdict.TheVariants.{Accepted};
+ghost use Rattle.machine.specs.Verdicts.{Accepted};
 ghost use Rattle.acceptance.specs.Accept.{judge_registers};
 ghost use Rattle.definition_instructions.specs.Machine.{computer};
 ghost use Rattle.definition_instructions.specs.Channel.{four_left};
@@ -11,9 +11,12 @@ ghost use Rattle.definition_runs.specs.Lent.{pressed_of, machine_lent, key_retur
 ghost use Rattle.definition_runs.specs.Keys.{reset_key, start_control, start_key, pressing_reset, pressing_start, autoload_control};
 ghost use Rattle.panel_keys.specs.Key.{autoloaded, autoload_pressed};
 
-use machine::{Autoloaded, Control, Devices, Record, State, Verdict};
+use channel_row::Channel;
+use control_row::Row;
+use machine::{Autoloaded, Control, Devices, Record, State};
 
 // Reset System, outside the reset state.
+#[tactic(auto, unfolding(definition_runs::specs::Keys::reset_key, definition_instructions::specs::Machine::reset_system))]
 fn reset_key(store: &mut [u32], c: Control) -> Control
     ensures { computer store.new result ≡ reset_key store.old c }
 {
@@ -25,47 +28,37 @@ fn reset_key(store: &mut [u32], c: Control) -> Control
 }
 
 // The reset key.
+#[tactic(auto, unfolding(definition_runs::specs::Keys::pressing_reset))]
 pub fn press_reset(store: &mut [u32], control: Record) -> State
     ensures { pressed_of result store.new ≡ pressing_reset store.old control }
 {
-    let v = acceptance::judge_machine(store, control);
-    match v {
-        Verdict::Accepted => {
-            let c = control.registers;
-            let t = control.timer;
-            let d = reset_key(store, c);
-            let r = Record {
-                registers: d,
-                timer: t,
-            };
-            State {
-                control: r,
-                verdict: Verdict::Accepted,
-            }
-        }
-        Verdict::Rejected(q) => State {
-            control: control,
-            verdict: Verdict::Rejected(q),
+    match acceptance::judge_machine(store, control) {
+        Ok(()) => State {
+            control: Record {
+                registers: reset_key(store, control.registers),
+                ..control
+            },
+            verdict: Ok(()),
+        },
+        Err(q) => State {
+            control,
+            verdict: Err(q),
         },
     }
 }
 
+#[tactic(auto, unfolding(definition_runs::specs::Keys::start_control))]
 fn start_record(c: Control, a: u32) -> Control
     ensures { result ≡ start_control c a }
 {
     Control {
         ic: a / 2 * 2,
-        ir: c.ir,
-        im: c.im,
-        pending: c.pending,
-        pr: c.pr,
-        ex: c.ex,
-        monitor: c.monitor,
-        enabled: c.enabled,
         reset: false,
+        ..c
     }
 }
 
+#[tactic(auto, unfolding(definition_runs::specs::Keys::start_key))]
 fn start_key(store: &mut [u32], c: Control) -> Control
     ensures { computer store.new result ≡ start_key store.old c }
 {
@@ -77,100 +70,68 @@ fn start_key(store: &mut [u32], c: Control) -> Control
 }
 
 // The start key.
+#[tactic(auto, unfolding(definition_runs::specs::Keys::pressing_start))]
 pub fn press_start(store: &mut [u32], control: Record) -> State
     ensures { pressed_of result store.new ≡ pressing_start store.old control }
 {
-    let v = acceptance::judge_machine(store, control);
-    match v {
-        Verdict::Accepted => {
-            let c = control.registers;
-            let t = control.timer;
-            let d = start_key(store, c);
-            let r = Record {
-                registers: d,
-                timer: t,
-            };
-            State {
-                control: r,
-                verdict: Verdict::Accepted,
-            }
-        }
-        Verdict::Rejected(q) => State {
-            control: control,
-            verdict: Verdict::Rejected(q),
+    match acceptance::judge_machine(store, control) {
+        Ok(()) => State {
+            control: Record {
+                registers: start_key(store, control.registers),
+                ..control
+            },
+            verdict: Ok(()),
+        },
+        Err(q) => State {
+            control,
+            verdict: Err(q),
         },
     }
 }
 
 // The control registers with which Autoload Word is begun: IC := 0, and the reset state is left.
+#[tactic(auto, unfolding(definition_runs::specs::Keys::autoload_control))]
 fn autoload_record(c: Control) -> Control
     ensures { result ≡ autoload_control c }
 {
     Control {
         ic: 0,
-        ir: c.ir,
-        im: c.im,
-        pending: c.pending,
-        pr: c.pr,
-        ex: c.ex,
-        monitor: c.monitor,
-        enabled: c.enabled,
         reset: false,
+        ..c
     }
 }
 
 // IC := SB := 0; goto Autoload Word.
-fn autoload(
-    store: &mut [u32],
-    r: Record,
-    devices: Devices,
-    characters: &[u8],
-    typing: &[u8],
-) -> Autoloaded
+fn autoload(store: &mut [u32], r: Record, devices: Devices, characters: &[u8]) -> Autoloaded
     requires { (judge_registers store.old r.registers ≡ Accepted) × (devices.reader < word_range) × (devices.typewriter < word_range) × (four_left characters.now ≡ true) }
-    ensures { key_returned result store.new ≡ key_handed_back characters.now (autoloaded (machine_lent store.old r devices characters.now typing.now)) }
+    ensures { key_returned result store.new ≡ key_handed_back characters.now (autoloaded (machine_lent store.old r devices characters.now [])) }
 {
-    let c = r.registers;
     let t = r.timer;
-    let d = autoload_record(c);
-    let mut k = control_row::row_of(d);
-    let mut h = channel_row::channel_of(devices, characters, typing);
-    let e = device_instructions::autoload(store, &mut k, &mut h, characters, typing, 0);
-    let a = control_row::control_of(&k);
-    let v = channel_row::devices_of(&h, characters, typing);
-    let n = channel_row::taken(&h, characters, typing);
-    let x = Record {
-        registers: a,
-        timer: t,
-    };
+    let mut k = Row::of(autoload_record(r.registers));
+    let mut h = Channel::new(devices, characters, &mut []);
+    let e = device_instructions::autoload(store, &mut k, &mut h, 0);
     Autoloaded {
-        control: x,
-        verdict: Verdict::Accepted,
-        devices: v,
-        taken: n,
+        control: Record {
+            registers: k.control(),
+            timer: t,
+        },
+        verdict: Ok(()),
+        devices: h.devices(),
+        taken: characters.len().saturating_sub(h.left()),
     }
 }
 
-fn autoload_key(
-    store: &mut [u32],
-    r: Record,
-    devices: Devices,
-    characters: &[u8],
-    typing: &[u8],
-) -> Autoloaded
+fn autoload_key(store: &mut [u32], r: Record, devices: Devices, characters: &[u8]) -> Autoloaded
     requires { (judge_registers store.old r.registers ≡ Accepted) × (devices.reader < word_range) × (devices.typewriter < word_range) }
-    ensures { key_returned result store.new ≡ key_handed_back characters.now (autoload_pressed (machine_lent store.old r devices characters.now typing.now)) }
+    ensures { key_returned result store.new ≡ key_handed_back characters.now (autoload_pressed (machine_lent store.old r devices characters.now [])) }
 {
-    let c = r.registers;
-    if c.reset {
-        if characters.len() >= 4 {
-            return autoload(store, r, devices, characters, typing);
-        }
+    if r.registers.reset && characters.len() >= 4 {
+        return autoload(store, r, devices, characters);
     }
     Autoloaded {
         control: r,
-        verdict: Verdict::Accepted,
-        devices: devices,
+        verdict: Ok(()),
+        devices,
         taken: 0,
     }
 }
@@ -184,13 +145,12 @@ pub fn press_autoload(
 ) -> Autoloaded
     ensures { key_returned result store.new ≡ autoload_lent store.old control devices characters.now }
 {
-    let v = acceptance::judge_autoload(store, control, devices, characters);
-    match v {
-        Verdict::Accepted => autoload_key(store, control, devices, characters, &[]),
-        Verdict::Rejected(q) => Autoloaded {
-            control: control,
-            verdict: Verdict::Rejected(q),
-            devices: devices,
+    match acceptance::judge_autoload(store, control, devices, characters) {
+        Ok(()) => autoload_key(store, control, devices, characters),
+        Err(q) => Autoloaded {
+            control,
+            verdict: Err(q),
+            devices,
             taken: 0,
         },
     }

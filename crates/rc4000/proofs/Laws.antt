@@ -14,9 +14,7 @@ use Rattle.machine.specs.declared.Record.{Record}
 use Rattle.machine.specs.declared.Devices.{Devices}
 use Rattle.machine.specs.declared.Refusal.{Refusal}
 use Rattle.machine.specs.declared.Refusal.TheVariants.{Budget, Lines}
-use Rattle.machine.specs.declared.Answer.TheVariants.{Refused}
-use Rattle.machine.specs.declared.Verdict.{Verdict}
-use Rattle.machine.specs.declared.Verdict.TheVariants.{Accepted, Rejected}
+use Rattle.machine.specs.Verdicts.{Refused, Verdict, Accepted, Rejected}
 use Rattle.machine.specs.Fields.{with_ir, raised}
 use Rattle.acceptance.specs.Accept.{judge_registers, judge_machine, judge_call, devices_fit, judge_run}
 use Rattle.acceptance.proofs.Tests.{passed, passed_timer, passed_devices}

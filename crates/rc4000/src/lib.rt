@@ -1,19 +1,18 @@
 // The public calls. None asks anything of its caller; each contract sets the result and all that is lent for all inputs.
 #![tactic(auto)]
 
-ghost use Rattle.std.specs.Prelude.{◌≡◌};
+ghost use Rattle.std.specs.Prelude.{◌≡◌, true, MatchOption, MatchResult};
+ghost use Rattle.machine.specs.Answers.{refusal_number};
 ghost use Rattle.definition_runs.specs.Timed.{timed_computer};
 ghost use Rattle.definition_runs.specs.Lent.{run_result_of, pressed_of, returned, run_lent, key_returned, autoload_lent};
 ghost use Rattle.definition_runs.specs.Keys.{pressing_reset, pressing_start};
 ghost use Rattle.run_promises.specs.Promises.{KeepsProtected, TouchesNoDevice, Counts};
 ghost use Rattle.definition_tape.specs.Load.{loading, overlaying};
-ghost use Rattle.definition_tape.specs.Remark.{remark_span, remark_text, place_from};
-ghost use Rattle.definition_tape.specs.Writing.{remark_of, writing};
+ghost use Rattle.definition_tape.specs.Remark.{no_span, remark_span, remark_text, place_from};
+ghost use Rattle.definition_tape.specs.Writing.{remark_lent, written, writing};
 ghost use Rattle.definition_assembler.specs.Assembling.{assembling};
 
-use definition_assembler::Assembled;
-use definition_tape::Written;
-use machine::{Answer, Autoloaded, Devices, Record, Run, State, Verdict};
+use machine::{Autoloaded, Devices, Record, Refusal, Run, State};
 
 // A run with raised lines and a budget of cycles, the device buffer registers, the reader's characters and a buffer for typed bytes.
 pub fn run(
@@ -30,21 +29,17 @@ pub fn run(
     ensures untouched { TouchesNoDevice control devices typing.old (returned result store.new typing.new) }
     ensures counts { Counts budget (run_result_of result store.new) }
 {
-    let v = acceptance::judge_run(store, control, lines, budget, devices, characters);
-    match v {
-        Verdict::Accepted => {
-            if lines == 0 {
-                run_loop::run(store, control, budget, devices, characters, typing)
-            } else {
-                run_loop::run_raised(store, control, lines, budget, devices, characters, typing)
-            }
+    match acceptance::judge_run(store, control, lines, budget, devices, characters) {
+        Ok(()) if lines == 0 => {
+            run_loop::run(store, control, budget, devices, characters, typing)
         }
-        Verdict::Rejected(q) => Run {
-            control: control,
-            answer: Answer::Refused(q),
+        Ok(()) => run_loop::run_raised(store, control, lines, budget, devices, characters, typing),
+        Err(q) => Run {
+            control,
+            answer: Err(q),
             executed: 0,
             entries: 0,
-            devices: devices,
+            devices,
             taken: 0,
             typed: 0,
         },
@@ -93,26 +88,28 @@ pub fn overlay(store: &mut [u32], control: Record, tape: &[u8]) -> State
     tape_load::overlay(store, control, tape)
 }
 
-// The first remark's text as a part of the tape, where the tape loads into that many cells; empty for none and for a refusal.
-pub fn remark<'a>(tape: &'a [u8], cells: usize, found: &mut bool, refusal: &mut u32) -> &'a [u8]
-    ensures text { result.now ≡ remark_text tape.now cells }
-    ensures place { result.ref_ptr ≡ place_from tape.entry.ref_ptr (remark_span tape.now cells).start }
-    ensures flag { found.new ≡ (remark_span tape.now cells).found }
-    ensures number { refusal.new ≡ (remark_span tape.now cells).refusal }
+// The first remark's text as a part of the tape, where the tape loads into that many cells.
+pub fn remark<'a>(tape: &'a [u8], cells: usize) -> Result<Option<&'a [u8]>, Refusal>
+    ensures { MatchResult result (λ o. MatchOption o (remark_span tape.now cells ≡ no_span 0) (λ x. (x.now ≡ remark_text tape.now cells) × (x.ref_ptr ≡ place_from tape.entry.ref_ptr (remark_span tape.now cells).start) × ((remark_span tape.now cells).found ≡ true))) (λ q. remark_span tape.now cells ≡ no_span (refusal_number q)) }
 {
-    tape_remark::remark(tape, cells, found, refusal)
+    tape_remark::remark(tape, cells)
 }
 
-// Writes the tape of a machine into a buffer, with the remark `text` where one is given. On a refusal no byte changes.
-pub fn write(store: &[u32], control: Record, given: bool, text: &[u8], tape: &mut [u8]) -> Written
-    ensures answer { result ≡ (writing store.now control (remark_of given text.now) tape.old).answer }
-    ensures bytes { tape.new ≡ (writing store.now control (remark_of given text.now) tape.old).bytes }
+// Writes the tape of a machine into a buffer, with its remark where there is one; the answer is the tape's length. On a refusal no byte changes.
+pub fn write(
+    store: &[u32],
+    control: Record,
+    remark: Option<&[u8]>,
+    tape: &mut [u8],
+) -> Result<usize, Refusal>
+    ensures answer { written result ≡ (writing store.now control (remark_lent remark.entry) tape.old).answer }
+    ensures bytes { tape.new ≡ (writing store.now control (remark_lent remark.entry) tape.old).bytes }
 {
-    tape_write::write(store, control, given, text, tape)
+    tape_write::write(store, control, remark, tape)
 }
 
 // The word of a line of the assembler, or its refusal.
-pub fn assemble(line: &[u8]) -> Assembled
+pub fn assemble(line: &[u8]) -> Result<u32, Refusal>
     ensures { result ≡ assembling line.now }
 {
     assembler::assemble(line)

@@ -1,4 +1,4 @@
-// AF, 39 bits, in a u64, and SC, 13 bits, in a u32: normalizing, rounding, storing in Wpre and W.
+// AF and SC: normalizing, rounding, storing in Wpre and W.
 #![tactic(auto)]
 
 ghost use Rattle.std.specs.Prelude.{◌≡◌, ◌/◌, ◌%◌, ◌^◌, ◌<◌};
@@ -6,16 +6,16 @@ ghost use Rattle.rounding.specs.Round.{left_shifts, normalize_once, normalize_ro
 ghost use Rattle.rounding.specs.Store.{precise, stored_floating, precise_store, round_store};
 ghost use Rattle.rounding.specs.Convert.{ci, integer_shifts};
 
-use registers::LONG_WORD_RANGE;
+use registers::{LONG_WORD_RANGE, Register, signed25};
 
 // A fraction in AF and an exponent in SC.
 #[derive(Clone, Copy)]
 pub struct Unpacked {
-    pub af: u64,
-    pub sc: u32,
+    pub af: Register<39>,
+    pub sc: Register<13>,
 }
 
-// Wpre and W, and 1 where EX(22) and IR(2) are set.
+// Wpre and W, and 1 where EX(22) and IR(2) are set, beside words that are stored whatever it says, so they are no Option.
 #[derive(Clone, Copy)]
 pub struct Pair {
     pub pre: u64,
@@ -23,94 +23,101 @@ pub struct Pair {
     pub over: u32,
 }
 
-// Left shifts until AF(0) <> AF(1), of AF(0:37) at the left of 48 bits.
+// Left shifts until AF(0) <> AF(1).
+#[tactic(auto, unfolding(crate::specs::Round::left_shifts))]
 fn left_shifts(x: Unpacked) -> Unpacked
-    requires { (x.af < 2 ^ 39) × (x.af / 2 ^ 38 ≡ x.af / 2 ^ 37 % 2) × (x.sc < 2 ^ 13) }
-    ensures { (result ≡ left_shifts x) × (result.af < 2 ^ 39) × (result.sc < 2 ^ 13) }
+    requires { x.af / 2 ^ 38 ≡ x.af / 2 ^ 37 % 2 }
+    ensures { result ≡ left_shifts x }
 {
-    let a = x.af;
-    if a == 0 {
-        return Unpacked { af: 0, sc: 6144 };
+    if x.af.bits() == 0 {
+        return Unpacked {
+            sc: Register::new(6144),
+            ..x
+        };
     }
-    let r = normalize::normalize48(a % 274877906944 * 1024);
-    let low = r.word / 1024;
+    let r = normalize::normalize(x.af.last::<38>());
     Unpacked {
-        af: low + low / 137438953472 * 274877906944,
-        sc: (x.sc + (8192 - r.shifts)) % 8192,
+        af: Register::<38>::new(r.word).signed(),
+        sc: x.sc.wrapping_sub(Register::new(u64::from(r.shifts))),
     }
 }
 
 // From Again to the rounding.
+#[tactic(auto, unfolding(crate::specs::Round::normalize_once))]
 fn normalize_once(x: Unpacked) -> Unpacked
-    requires { (x.af < 2 ^ 39) × (x.sc < 2 ^ 13) }
-    ensures { (result ≡ normalize_once x) × (result.af < 2 ^ 39) × (result.sc < 2 ^ 13) }
+    ensures { result ≡ normalize_once x }
 {
-    let a = x.af;
-    if a / 274877906944 != a / 137438953472 % 2 {
+    if x.af.bits_differ() {
         return Unpacked {
-            af: a / 2 + a / 274877906944 * 274877906944,
-            sc: (x.sc + 1) % 8192,
+            af: x.af.shifted_right(),
+            sc: x.sc.wrapping_add(Register::new(1)),
         };
     }
     left_shifts(x)
 }
 
 pub fn normalize_round(x: Unpacked) -> Unpacked
-    requires { (x.af < 2 ^ 39) × (x.sc < 2 ^ 13) }
-    ensures { (result ≡ normalize_round x) × (result.af < 2 ^ 39) × (result.sc < 2 ^ 13) }
+    ensures { result ≡ normalize_round x }
 {
     let y = normalize_once(x);
-    let a = y.af;
-    if a / 2 % 2 == 0 {
+    if y.af.bits() / 2 % 2 == 0 {
         return y;
     }
+    let up = y.af.wrapping_add(Register::new(4)).bits() / 4 * 4;
     normalize_once(Unpacked {
-        af: (a + 4) % 549755813888 / 4 * 4,
-        sc: y.sc,
+        af: Register::new(up),
+        ..y
     })
 }
 
 // Only EX(21) is looked at.
-fn precise_af(ex: u32, af: u64) -> u64
-    requires { af < 2 ^ 39 }
-    ensures { (result ≡ precise ex af) × (result < 2 ^ 39) }
+#[tactic(auto, unfolding(crate::specs::Store::precise))]
+fn precise_af(ex: u32, af: Register<39>) -> Register<39>
+    ensures { result ≡ precise ex af }
 {
+    let n = af.bits();
     if ex / 4 % 2 == 1 {
-        af / 16 * 16 + af / 16 % 2 * 12 + af % 4
+        Register::new(n / 16 * 16 + n / 16 % 2 * 12 + n % 4)
     } else {
         af
     }
 }
 
-fn store(af: u64, sc: u32, over: u32) -> Pair
-    ensures { result ≡ stored_floating af sc over }
+fn store(x: Unpacked, over: u32) -> Pair
+    ensures { result ≡ stored_floating x.af x.sc over }
 {
+    let n = x.af.bits();
     Pair {
-        pre: af / 16384 % LONG_WORD_RANGE,
-        word: af / 4 % 4096 * 4096 + sc as u64 % 4096,
-        over: over,
+        pre: n / 16384 % LONG_WORD_RANGE,
+        word: n / 4 % 4096 * 4096 + x.sc.bits() % 4096,
+        over,
     }
 }
 
 // Test Precision Mode and Store.
-pub fn precise_store(ex: u32, af: u64, sc: u32, over: u32) -> Pair
-    requires { af < 2 ^ 39 }
-    ensures { result ≡ precise_store ex af sc over }
+pub fn precise_store(ex: u32, x: Unpacked, over: u32) -> Pair
+    ensures { result ≡ precise_store ex x.af x.sc over }
 {
-    store(precise_af(ex, af), sc, over)
+    store(
+        Unpacked {
+            af: precise_af(ex, x.af),
+            ..x
+        },
+        over,
+    )
 }
 
 // Normalize and Round Floating; Test Precision Mode and Store.
+#[tactic(auto, unfolding(crate::specs::Store::round_store))]
 pub fn round_store(ex: u32, x: Unpacked) -> Pair
-    requires { (x.af < 2 ^ 39) × (x.sc < 2 ^ 13) }
     ensures { result ≡ round_store ex x }
 {
     let y = normalize_round(x);
-    let c = y.sc;
-    precise_store(ex, y.af, c, (c / 4096 + c / 2048 % 2) % 2)
+    precise_store(ex, y, y.sc.overflow())
 }
 
 // CI: W, and the effective address.
+#[tactic(auto, unfolding(crate::specs::Convert::ci))]
 pub fn convert_integer(w: u32, sb: u32) -> Pair
     requires { w < 2 ^ 24 }
     ensures { result ≡ ci w sb }
@@ -122,15 +129,12 @@ pub fn convert_integer(w: u32, sb: u32) -> Pair
             over: 0,
         };
     }
-    let s = registers::signed25(w) as u64;
     let x = normalize_round(Unpacked {
-        af: s * 16384,
-        sc: 23,
+        af: signed25(w).at_left(),
+        sc: Register::new(23),
     });
-    let b = x.sc;
-    let c = (b + sb % 8192) % 8192;
-    let o = registers::larger((b / 4096 + b / 2048 % 2) % 2, (c / 4096 + c / 2048 % 2) % 2);
-    store(x.af, c, o)
+    let sc = x.sc.wrapping_add(Register::new(u64::from(sb % 8192)));
+    store(Unpacked { sc, ..x }, x.sc.overflow().max(sc.overflow()))
 }
 
 // The left shifts that CI made to normalize, by the exponent x % 4096 that it left.

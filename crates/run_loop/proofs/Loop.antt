@@ -5,13 +5,13 @@ use native.Mathlib.Omega.{arith}
 use mathlib.Core.Path.{◌≡◌, refl, sym, ap, subst, ◌∙◌}
 use mathlib.Core.Bool.{Bool, true, false, cond, true≢false, false≢true}
 use mathlib.Core.List.{List}
-use lib.ListN.{length, get_or, take-append-drop}
+use lib.ListN.{length, take-append-drop}
 use Rattle.machine.specs.declared.Control.{Control}
 use Rattle.machine.specs.declared.Timer.{Timer}
 use Rattle.machine.specs.declared.Record.{Record}
 use Rattle.machine.specs.declared.Devices.{Devices}
 use Rattle.machine.specs.declared.Outcome.TheVariants.{Reset, Spent}
-use Rattle.machine.specs.declared.Verdict.TheVariants.{Accepted}
+use Rattle.machine.specs.Verdicts.{Accepted}
 use Rattle.machine.specs.Fields.{with_ir, raised}
 use Rattle.machine.specs.Records.{reset_control}
 use Rattle.acceptance.specs.Accept.{timer_fits, judge_registers, judge_machine}
@@ -30,9 +30,9 @@ use Rattle.definition_runs.specs.Run.{in_reset, run_cycles}
 use Rattle.definition_runs.specs.Lent.{machine_lent, returned, handed_back}
 use Rattle.definition_runs.proofs.RunLaws.{run_reset, run_out, run_live, Meets}
 use Rattle.definition_runs.proofs.CycleValid.{cycle_valid, valid_joined}
-use Rattle.control_row.specs.Row.{control_at}
+use Rattle.channel_row.specs.declared.Channel.{Channel as Row}
 use Rattle.channel_row.specs.Row.{channel_at}
-use Rattle.timer_row.specs.Row.{Clock, clock_at, timer_at, passing, limit_of, IsClock, BelowLimit}
+use Rattle.timer_row.specs.Row.{Clock, timer_at, passing, limit_of, BelowLimit}
 use Rattle.timer_row.proofs.Laws.{limit_most, below_limit}
 use Rattle.cycle.specs.declared.CycleEnd.{CycleEnd}
 use Rattle.cycle.specs.declared.CycleEnd.TheVariants as cycleEnd
@@ -67,12 +67,11 @@ record Ticks (x y : Clock) (n : ℕ) : Type 0 where
   time : y.passed ≡ x.passed + n
   timer : y.timer ≡ x.timer
 
-ticks : (t : List ℕ) (y : Clock) (m : Machine) → IsClock t → BelowLimit t → y ≡ passing (cycle_time m) (clock_at t) → Ticks (clock_at t) y (cycle_time m)
+ticks : (t y : Clock) (m : Machine) → BelowLimit t → y ≡ passing (cycle_time m) t → Ticks t y (cycle_time m)
 unfolding passing
-ticks t y m k l e =
-    let z : (clock_at t).limit ≤ 2 ^ 31 = rw k.limit (limit_most (clock_at t).timer) in
+ticks t y m l e =
     record {
-      time = ap (λ (c : Clock). c.passed) e ∙ sum_fits (clock_at t).passed (cycle_time m) (clock_at t).limit l z (cycle_most m);
+      time = ap (λ (c : Clock). c.passed) e ∙ sum_fits t.passed (cycle_time m) (limit_of t.timer) l (limit_most t.timer) (cycle_most m);
       timer = ap (λ (c : Clock). c.timer) e;
     }
 
@@ -104,14 +103,13 @@ tick (cycleEnd.Entered k) m s c d h p r u l e f g =
     rw (← e, f, g, after_twice p (cycle_time m) r, raised_later p (cycle_time m) r c l)
 
 -- the same of the rows: k, t at the beginning, y the clock and c the control registers as the cycle ends
-pub cycle_ticks : (e : CycleEnd) (s s' : List ℕ) (k : List ℕ) (c d : Control) (g h : Channel) (t : List ℕ) (y : Clock) (u : Timer) → IsClock t → BelowLimit t
-    → cycle_of e s' c h ≡ cycle (machine s (control_at k) g) → y ≡ passing (cycle_time (machine s (control_at k) g)) (clock_at t)
+pub cycle_ticks : (e : CycleEnd) (s s' : List ℕ) (k c d : Control) (g h : Channel) (t y : Clock) (u : Timer) → BelowLimit t
+    → cycle_of e s' c h ≡ cycle (machine s k g) → y ≡ passing (cycle_time (machine s k g)) t
     → d ≡ line_raised y.passed y.timer c → u ≡ timer_after y.passed y.timer
-    → timed_of e s' (record { registers = d; timer = u }) h ≡ timed_cycle (timed_machine s (record { registers = control_at k; timer = timer_at t }) g)
-cycle_ticks e s s' k c d g h t y u q l x z f v =
-    let w = ticks t y (machine s (control_at k) g) q l z in
-    let below : (clock_at t).passed < limit_of (clock_at t).timer = rw (← q.limit) l in
-    tick e (machine s (control_at k) g) s' c d h (clock_at t).passed (clock_at t).timer u below x
+    → timed_of e s' (record { registers = d; timer = u }) h ≡ timed_cycle (timed_machine s (record { registers = k; timer = timer_at t }) g)
+cycle_ticks e s s' k c d g h t y u l x z f v =
+    let w = ticks t y (machine s k g) l z in
+    tick e (machine s k g) s' c d h t.passed t.timer u l x
     (rw (w.time, w.timer) at f) (rw (w.time, w.timer) at v)
 
 -- ---- the loop
@@ -126,11 +124,6 @@ at_first b m = let z : b - b ≡ 0 = omega arith in rw z (simp zero-add)
 pub begun_in_reset_lem : (b : ℕ) (m : TimedMachine) → in_reset m ≡ true → ended Reset m 0 0 ≡ run_cycles b m
 unfolding run_cycles
 begun_in_reset_lem b m e = sym (run_reset in_reset timed_cycle b m e)
-
--- a row is that of a machine outside the reset state
-pub outside_reset : (k : List ℕ) → (control_at k).reset ≡ false
-unfolding control_at
-outside_reset k = refl
 
 one_more : (n k : ℕ) → n + suc k ≡ n + 1 + k
 one_more n k = omega arith
@@ -185,13 +178,13 @@ accepted_record s r e = passed_timer (judge_registers s r.registers) r.timer e
 -- ---- what is handed back
 
 -- the typing buffer is what was typed and what is left of the space
-handed : (r : RunEnd) (s : List ℕ) (c : Record) (d cs t : List ℕ) → returned (run_of cs r c (channel_at d cs t)) s t ≡ handed_back cs (run_end_of r s c (channel_at d cs t))
+handed : (r : RunEnd) (s : List ℕ) (c : Record) (d : Row) (cs : List ℕ) → returned (run_of cs r c (channel_at d)) s d.typing.now ≡ handed_back cs (run_end_of r s c (channel_at d))
 unfolding run_of handed_back channel_at
-handed r s c d cs t = rw (take-append-drop (get_or d 3 0) t)
+handed r s c d cs = rw (take-append-drop d.typed d.typing.now)
 
-pub handed_run : (r : RunEnd) (s : List ℕ) (c : Record) (d cs t : List ℕ) {x : RunResult TimedMachine} → run_end_of r s c (channel_at d cs t) ≡ x
-    → returned (run_of cs r c (channel_at d cs t)) s t ≡ handed_back cs x
-handed_run r s c d cs t e = handed r s c d cs t ∙ ap (handed_back cs) e
+pub handed_run : (r : RunEnd) (s t : List ℕ) (c : Record) (d : Row) (cs : List ℕ) {x : RunResult TimedMachine} → t ≡ d.typing.now → run_end_of r s c (channel_at d) ≡ x
+    → returned (run_of cs r c (channel_at d)) s t ≡ handed_back cs x
+handed_run r s t c d cs f e = rw f (handed r s c d cs ∙ ap (handed_back cs) e)
 
 pub handed_in_reset : (b : ℕ) (s : List ℕ) (c : Record) (d : Devices) (cs t : List ℕ) → c.registers.reset ≡ true
     → returned (begun_in_reset c d) s t ≡ handed_back cs (run_cycles b (machine_lent s c d cs t))

@@ -5,8 +5,7 @@ use Rattle.machine.specs.declared.Control.{Control}
 use Rattle.machine.specs.declared.Devices.{Devices}
 use Rattle.machine.specs.declared.Record.{Record}
 use Rattle.machine.specs.declared.Outcome.TheVariants.{Reset, Interrupted, Spent}
-use Rattle.machine.specs.declared.Answer.{Answer}
-use Rattle.machine.specs.declared.Answer.TheVariants.{Refused, Ended}
+use Rattle.machine.specs.Verdicts.{Answer, Refused, Ended}
 use Rattle.machine.specs.declared.Run.{Run}
 use Rattle.machine.specs.Records.{reset_control}
 use Rattle.definition_instructions.specs.Machine.{Channel}

@@ -1,42 +1,38 @@
 // The cycles of a run, until the budget is used, the reset state or an entry.
-#![tactic(auto)]
+#![tactic(auto, unfolding(crate::specs::Ends::goes_on, crate::specs::Ends::stopped, crate::specs::Ends::run_of))]
 
 ghost use Rattle.std.specs.Prelude.{◌≡◌, ◌<◌};
 ghost use Rattle.registers.specs.Reg.{word_range};
-ghost use Rattle.machine.specs.declared.Verdict.TheVariants.{Accepted};
+ghost use Rattle.machine.specs.Verdicts.{Accepted};
 ghost use Rattle.machine.specs.Fields.{raised};
 ghost use Rattle.acceptance.specs.Accept.{budget_range, judge_registers, judge_machine};
 ghost use Rattle.definition_runs.specs.Timed.{timed_machine};
 ghost use Rattle.definition_runs.specs.Lent.{machine_lent, returned, handed_back};
-ghost use Rattle.channel_row.specs.Row.{channel_at, IsChannel};
+ghost use Rattle.channel_row.specs.Row.{channel_at, Same};
 ghost use Rattle.definition_runs.specs.Run.{run_cycles};
-ghost use Rattle.control_row.specs.Row.{control_at, IsRow};
-ghost use Rattle.timer_row.specs.Row.{timer_at, IsClock, BelowLimit};
+ghost use Rattle.timer_row.specs.Row.{timer_at, BelowLimit};
 ghost use Rattle.run_loop.specs.Ends.{goes_on, stopped, run_end_of, control_after, run_of, begun_in_reset};
 
 use channel_row::Channel;
 use control_row::Row;
 use cycle::CycleEnd;
-use machine::{Answer, Control, Devices, Outcome, Record, Run};
+use machine::{Control, Devices, Outcome, Record, Refusal, Run};
 use timer_row::Clock;
 
 // How the cycles ended; cells and row stand beside it.
 #[derive(Clone, Copy)]
 struct RunEnd {
-    answer: Answer,
+    answer: Result<Outcome, Refusal>,
     executed: u32,
     entries: u32,
 }
 
 // Does the run go on after this cycle.
+#[tactic(auto, unfolding(crate::specs::Ends::goes_on))]
 fn goes_on(e: CycleEnd) -> bool
     ensures { result ≡ goes_on e }
 {
-    match e {
-        CycleEnd::Executed => true,
-        CycleEnd::Reset => false,
-        CycleEnd::Entered(_) => false,
-    }
+    matches!(e, CycleEnd::Executed)
 }
 
 // The run that ends with this cycle, n instructions before it.
@@ -46,17 +42,17 @@ fn stop(e: CycleEnd, n: u32) -> RunEnd
 {
     match e {
         CycleEnd::Executed => RunEnd {
-            answer: Answer::Ended(Outcome::Spent),
+            answer: Ok(Outcome::Spent),
             executed: n + 1,
             entries: 0,
         },
         CycleEnd::Reset => RunEnd {
-            answer: Answer::Ended(Outcome::Reset),
+            answer: Ok(Outcome::Reset),
             executed: n + 1,
             entries: 0,
         },
         CycleEnd::Entered(k) => RunEnd {
-            answer: Answer::Ended(Outcome::Interrupted(k)),
+            answer: Ok(Outcome::Interrupted(k)),
             executed: n,
             entries: 1,
         },
@@ -64,82 +60,63 @@ fn stop(e: CycleEnd, n: u32) -> RunEnd
 }
 
 // The first branch is never taken: its test tells the compiler that the registers' cells are there, so that no cycle tests it.
-fn cycles(
-    s: &mut [u32],
-    k: &mut Row,
-    t: &mut Clock,
-    budget: u32,
-    h: &mut Channel,
-    characters: &[u8],
-    typing: &mut [u8],
-) -> RunEnd
-    requires { (judge_registers s.old (control_at k.old) ≡ Accepted) × (budget < budget_range) × IsRow k.old × IsClock t.old × BelowLimit t.old × IsChannel h.old characters.now typing.old }
-    ensures value { run_end_of result s.new (record { registers = control_at k.new; timer = timer_at t.new }) (channel_at h.new characters.now typing.new) ≡ run_cycles budget (timed_machine s.old (record { registers = control_at k.old; timer = timer_at t.old }) (channel_at h.old characters.now typing.old)) }
-    ensures channel { IsChannel h.new characters.now typing.new }
-    ensures clock { IsClock t.new }
+fn cycles(s: &mut [u32], k: &mut Row, t: &mut Clock, budget: u32, h: &mut Channel) -> RunEnd
+    requires { (judge_registers s.old k.old ≡ Accepted) × (budget < budget_range) × BelowLimit t.old }
+    ensures value { run_end_of result s.new (record { registers = k.new; timer = timer_at t.new }) (channel_at h.new) ≡ run_cycles budget (timed_machine s.old (record { registers = k.old; timer = timer_at t.old }) (channel_at h.old)) }
+    ensures same { Same h.old h.new }
 {
     if s.len() < 8 {
         return RunEnd {
-            answer: Answer::Ended(Outcome::Spent),
+            answer: Ok(Outcome::Spent),
             executed: 0,
             entries: 0,
         };
     }
+    k.outside_reset();
     let mut left = budget;
     while left > 0 {
-        let e = cycle::cycle(s, k, t, h, characters, typing);
+        let e = cycle::cycle(s, k, t, h);
         if goes_on(e) {
-            timer_row::end_cycle(k, t);
+            t.end_cycle(k);
+            k.outside_reset();
             left -= 1;
         } else {
-            timer_row::end_cycle(k, t);
+            t.end_cycle(k);
             return stop(e, budget - left);
         }
     }
     RunEnd {
-        answer: Answer::Ended(Outcome::Spent),
+        answer: Ok(Outcome::Spent),
         executed: budget,
         entries: 0,
     }
 }
 
 // The control record after the cycles: the row has no place for the reset state.
-fn control_after(a: Answer, c: Control) -> Control
+fn control_after(a: Result<Outcome, Refusal>, c: Control) -> Control
     ensures { result ≡ control_after a c }
 {
     match a {
-        Answer::Refused(_) => c,
-        Answer::Ended(o) => match o {
-            Outcome::Reset => c.in_reset(),
-            Outcome::Interrupted(_) => c,
-            Outcome::Spent => c,
-        },
+        Ok(Outcome::Reset) => c.in_reset(),
+        _ => c,
     }
 }
 
-fn finished(e: RunEnd, k: &Row, t: &Clock, h: &Channel, characters: &[u8], typing: &[u8]) -> Run
-    requires { IsClock t.now × IsChannel h.now characters.now typing.now }
-    ensures { result ≡ run_of characters.now e (record { registers = control_at k.now; timer = timer_at t.now }) (channel_at h.now characters.now typing.now) }
+// No more characters are left than were lent.
+fn finished(e: RunEnd, k: &Row, t: &Clock, h: &Channel, characters: &[u8]) -> Run
+    ensures { result ≡ run_of characters.now e (record { registers = k.now; timer = timer_at t.now }) (channel_at h.now) }
 {
-    let a = e.answer;
-    let c = control_row::control_of(k);
-    let d = control_after(a, c);
-    let v = channel_row::devices_of(h, characters, typing);
-    let n = channel_row::taken(h, characters, typing);
-    let y = channel_row::typed(h, characters, typing);
-    let i = timer_row::timer_of(t);
-    let r = Record {
-        registers: d,
-        timer: i,
-    };
     Run {
-        control: r,
-        answer: a,
+        control: Record {
+            registers: control_after(e.answer, k.control()),
+            timer: t.timer(),
+        },
+        answer: e.answer,
         executed: e.executed,
         entries: e.entries,
-        devices: v,
-        taken: n,
-        typed: y,
+        devices: h.devices(),
+        taken: characters.len().saturating_sub(h.left()),
+        typed: h.typed(),
     }
 }
 
@@ -149,7 +126,7 @@ fn in_reset(r: Record, d: Devices) -> Run
 {
     Run {
         control: r,
-        answer: Answer::Ended(Outcome::Reset),
+        answer: Ok(Outcome::Reset),
         executed: 0,
         entries: 0,
         devices: d,
@@ -169,16 +146,14 @@ pub fn run(
     requires { (judge_machine s.old r ≡ Accepted) × (budget < budget_range) × (d.reader < word_range) × (d.typewriter < word_range) }
     ensures { returned result s.new typing.new ≡ handed_back characters.now (run_cycles budget (machine_lent s.old r d characters.now typing.old)) }
 {
-    let c = r.registers;
-    if c.reset {
+    if r.registers.reset {
         return in_reset(r, d);
     }
-    let i = r.timer;
-    let mut k = control_row::row_of(c);
-    let mut t = timer_row::clock_of(i);
-    let mut h = channel_row::channel_of(d, characters, typing);
-    let e = cycles(s, &mut k, &mut t, budget, &mut h, characters, typing);
-    finished(e, &k, &t, &h, characters, typing)
+    let mut k = Row::of(r.registers);
+    let mut t = Clock::of(r.timer);
+    let mut h = Channel::new(d, characters, typing);
+    let e = cycles(s, &mut k, &mut t, budget, &mut h);
+    finished(e, &k, &t, &h, characters)
 }
 
 // A run whose lines join first. It repeats `run` so that `cycles` has two call sites: with one alone the compiler would put the loop into its
@@ -195,19 +170,17 @@ pub fn run_raised(
     requires { (judge_machine s.old (record { registers = raised r.registers lines; timer = r.timer }) ≡ Accepted) × (budget < budget_range) × (d.reader < word_range) × (d.typewriter < word_range) }
     ensures { returned result s.new typing.new ≡ handed_back characters.now (run_cycles budget (machine_lent s.old (record { registers = raised r.registers lines; timer = r.timer }) d characters.now typing.old)) }
 {
-    let c = r.registers;
-    let i = r.timer;
-    let n = machine::raise(c, lines);
+    let n = machine::raise(r.registers, lines);
     if n.reset {
         let m = Record {
             registers: n,
-            timer: i,
+            timer: r.timer,
         };
         return in_reset(m, d);
     }
-    let mut k = control_row::row_of(n);
-    let mut t = timer_row::clock_of(i);
-    let mut h = channel_row::channel_of(d, characters, typing);
-    let e = cycles(s, &mut k, &mut t, budget, &mut h, characters, typing);
-    finished(e, &k, &t, &h, characters, typing)
+    let mut k = Row::of(n);
+    let mut t = Clock::of(r.timer);
+    let mut h = Channel::new(d, characters, typing);
+    let e = cycles(s, &mut k, &mut t, budget, &mut h);
+    finished(e, &k, &t, &h, characters)
 }

@@ -8,10 +8,7 @@ use mathlib.Core.List.{List, [], ◌∷◌}
 use borrow.Author.Tests.{lt-ltb}
 use Rattle.machine.specs.declared.Outcome.TheVariants.{Spent, Interrupted, Reset}
 use Rattle.machine.specs.declared.Refusal.{Refusal}
-use Rattle.machine.specs.declared.Answer.{Answer}
-use Rattle.machine.specs.declared.Answer.TheVariants.{Refused, Ended}
-use Rattle.machine.specs.declared.Verdict.{Verdict}
-use Rattle.machine.specs.declared.Verdict.TheVariants.{Accepted, Rejected}
+use Rattle.machine.specs.Verdicts.{Answer, Refused, Ended, Verdict, Accepted, Rejected}
 use Rattle.acceptance.specs.Accept.{judge_call, judge_devices}
 use Rattle.definition_runs.specs.GenericRun.{CycleResult, instruction, entry, RunResult, refused, counted, after, added, then_by, then_run, run, total, judged, call, calls}
 use Rattle.definition_runs.proofs.RunLaws.{run_reset, run_out, run_live}

@@ -18,10 +18,7 @@ use Rattle.machine.specs.declared.Timer.{Timer}
 use Rattle.machine.specs.declared.Outcome.TheVariants.{Spent, Interrupted, Reset}
 use Rattle.machine.specs.declared.Refusal.{Refusal}
 use Rattle.machine.specs.declared.Refusal.TheVariants.{StoreSize, CellValue, ControlField, TimerField, Lines, Budget}
-use Rattle.machine.specs.declared.Answer.{Answer}
-use Rattle.machine.specs.declared.Answer.TheVariants.{Refused, Ended}
-use Rattle.machine.specs.declared.Verdict.{Verdict}
-use Rattle.machine.specs.declared.Verdict.TheVariants.{Accepted, Rejected}
+use Rattle.machine.specs.Verdicts.{Answer, Refused, Ended, Verdict, Accepted, Rejected}
 use Rattle.machine.specs.Store.{word}
 use Rattle.machine.specs.Answers.{kind_number, verdict_number}
 use Rattle.machine.specs.Fields.{with_ir, raised}

@@ -7,8 +7,7 @@ use mathlib.Core.Path.{◌≡◌, refl, ap, ◌∙◌}
 use mathlib.Core.Bool.{Bool, true, false}
 use Rattle.machine.specs.declared.Outcome.{Outcome}
 use Rattle.machine.specs.declared.Outcome.TheVariants.{Spent, Interrupted, Reset}
-use Rattle.machine.specs.declared.Answer.{Answer}
-use Rattle.machine.specs.declared.Answer.TheVariants.{Refused, Ended}
+use Rattle.machine.specs.Verdicts.{Answer, Refused, Ended}
 use Rattle.registers.specs.Reg.{iter}
 use Rattle.definition_runs.specs.GenericRun.{CycleResult, instruction, entry, RunResult, ended, counted, after, added, then_by, then_run, run}
 use Rattle.definition_runs.proofs.RunLaws.{run_reset, run_out, run_live}

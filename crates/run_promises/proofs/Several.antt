@@ -6,8 +6,7 @@ use mathlib.Core.List.{List, [], ◌∷◌, ◌++◌, append_assoc, append-nil}
 use lib.ListN.{length, drop, length-append}
 use lib.Seq.{take-append_seam, drop-append_seam, drop_at}
 use Rattle.machine.specs.declared.Outcome.TheVariants.{Spent, Interrupted, Reset}
-use Rattle.machine.specs.declared.Answer.{Answer}
-use Rattle.machine.specs.declared.Answer.TheVariants.{Refused, Ended}
+use Rattle.machine.specs.Verdicts.{Answer, Refused, Ended}
 use Rattle.definition_instructions.specs.Machine.{Channel}
 use Rattle.definition_instructions.specs.Channel.{registers_of}
 use Rattle.definition_runs.specs.GenericRun.{RunResult, added, then_by, then_run, total, calls}

@@ -5,7 +5,7 @@ use mathlib.Core.Path.{◌≡◌, refl}
 use mathlib.Core.Bool.{Bool, true, false, cond}
 use Rattle.machine.specs.declared.Kind.{Kind}
 use Rattle.machine.specs.declared.Timer.{Timer}
-use Rattle.machine.specs.declared.Verdict.TheVariants.{Accepted}
+use Rattle.machine.specs.Verdicts.{Accepted}
 use Rattle.machine.specs.Fields.{raised}
 use Rattle.acceptance.specs.Accept.{timer_fits, judge_registers, judge_machine}
 use Rattle.acceptance.proofs.Tests.{passed_timer}

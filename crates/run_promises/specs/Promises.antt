@@ -8,9 +8,7 @@ use Rattle.machine.specs.declared.Devices.{Devices}
 use Rattle.machine.specs.declared.Kind.{Kind}
 use Rattle.machine.specs.declared.Outcome.TheVariants.{Spent, Interrupted, Reset}
 use Rattle.machine.specs.declared.Refusal.{Refusal}
-use Rattle.machine.specs.declared.Answer.{Answer}
-use Rattle.machine.specs.declared.Answer.TheVariants.{Refused, Ended}
-use Rattle.machine.specs.declared.Verdict.TheVariants.{Accepted, Rejected}
+use Rattle.machine.specs.Verdicts.{Answer, Refused, Ended, Accepted, Rejected}
 use Rattle.machine.specs.Store.{word}
 use Rattle.machine.specs.Records.{interrupt_number, interruption_program}
 use Rattle.machine.specs.Fields.{raised}

@@ -6,7 +6,7 @@ use Rattle.machine.specs.declared.Record.{Record}
 use Rattle.machine.specs.declared.Devices.{Devices}
 use Rattle.machine.specs.declared.Kind.{Kind}
 use Rattle.machine.specs.declared.Outcome.TheVariants.{Spent, Interrupted}
-use Rattle.machine.specs.declared.Answer.TheVariants.{Ended}
+use Rattle.machine.specs.Verdicts.{Ended}
 use Rattle.machine.specs.Records.{interruption_program}
 use Rattle.definition_instructions.specs.Protected.{forbidden_in, InTaskMode, EqualProtected}
 use Rattle.definition_runs.specs.GenericRun.{total}

@@ -1,2 +1,3 @@
 -- Laws that the proofs of `shift` cite.
 pub mod Narrow
+pub mod Places

@@ -1,13 +1,13 @@
-// The shift operations, one place at a time.
+// The shift operations, on N bits.
 #![tactic(auto)]
 
 ghost use Rattle.std.specs.Prelude.{◌≡◌, ◌^◌, ◌<◌};
-ghost use Rattle.registers.specs.Reg.{asr, shl, iter};
-ghost use Rattle.shift.specs.Shift.{places, left_step, arithmetic, logical, shr, shifts_made};
+ghost use Rattle.registers.specs.Reg.{iter};
+ghost use Rattle.shift.specs.Shift.{places, left_step, arithmetic, logical, shifts_made};
 
-use registers::{BIT_0, LONG_WORD_RANGE, WORD_RANGE};
+use registers::{BIT_0, Register, WORD_RANGE};
 
-// A register, and 1 where a shift to the left changed the sign.
+// A register, and 1 where a shift to the left changed the sign: EX(22), set beside a word that is stored whatever it says, so the word is no Option.
 #[derive(Clone, Copy)]
 pub struct Shifted {
     pub word: u64,
@@ -15,6 +15,7 @@ pub struct Shifted {
 }
 
 // How many places: m = abs(SB), or 48.
+#[tactic(auto, unfolding(crate::specs::Shift::places))]
 fn count(m: u32) -> u32
     ensures { (result ≡ places m) × (result < 64) }
 {
@@ -22,6 +23,7 @@ fn count(m: u32) -> u32
 }
 
 // The single shifts that AS, AD, LS and LD make.
+#[tactic(auto, unfolding(crate::specs::Shift::shifts_made))]
 pub fn shifts(sb: u32) -> u32
     requires { sb < 2 ^ 24 }
     ensures { (result ≡ shifts_made sb) × (result < 64) }
@@ -33,38 +35,62 @@ pub fn shifts(sb: u32) -> u32
     }
 }
 
-fn left_step48(x: Shifted) -> Shifted
-    requires { (x.word < 2 ^ 48) × (x.over < 2) }
-    ensures { (result ≡ left_step 48 x) × (result.word < 2 ^ 48) × (result.over < 2) }
-{
-    let w = x.word;
-    let d = (w / 140737488355328 + w / 70368744177664 % 2) % 2;
-    Shifted {
-        word: w * 2 % 281474976710656,
-        over: registers::larger(x.over, d as u32),
-    }
-}
-
-fn left48(n: u32, w: u64) -> Shifted
-    requires { w < 2 ^ 48 }
-    ensures { (result ≡ iter (left_step 48) n (record { word = w; over = 0 })) × (result.word < 2 ^ 48) × (result.over < 2) }
-{
-    let mut x = Shifted { word: w, over: 0 };
-    for i in 0..n {
-        x = left_step48(x);
-    }
-    x
-}
-
-fn right48(n: u32, w: u64) -> u64
-    requires { w < 2 ^ 48 }
-    ensures { (result ≡ iter (asr 48) n w) × (result < 2 ^ 48) }
+// One place at a time: each is looked at for overflow.
+#[tactic(auto, unfolding(crate::specs::Shift::left_step), using(registers::proofs::Loops::iter_none, registers::proofs::Loops::iter_next))]
+fn shift_left<const N: u32>(n: u32, w: Register<N>) -> Shifted
+    requires { 1 < N }
+    ensures value { result ≡ iter (left_step N) n (record { word = w.entry; over = 0 }) }
+    ensures bounds { (result.word < 2 ^ N) × (result.over < 2) }
 {
     let mut x = w;
-    for i in 0..n {
-        x = x / 2 + x / 140737488355328 * 140737488355328;
+    let mut over = 0u32;
+    for _ in 0..n {
+        over = over.max(x.overflow());
+        x = x.shifted_left();
     }
-    x
+    Shifted {
+        word: x.bits(),
+        over,
+    }
+}
+
+#[tactic(auto, unfolding(crate::specs::Shift::arithmetic, crate::specs::Shift::shifts_made))]
+fn arithmetic<const N: u32>(sb: u32, w: Register<N>) -> Shifted
+    requires { (sb < 2 ^ 24) × (1 < N) }
+    ensures value { result ≡ arithmetic N sb w.entry }
+    ensures bounds { (result.word < 2 ^ N) × (result.over < 2) }
+{
+    let n = shifts(sb);
+    if sb < BIT_0 {
+        shift_left(n, w)
+    } else {
+        Shifted {
+            word: w.shifted_right_by(n).bits(),
+            over: 0,
+        }
+    }
+}
+
+#[tactic(auto, unfolding(crate::specs::Shift::logical), using(crate::proofs::Places::places_right))]
+fn logical<const N: u32>(sb: u32, w: Register<N>) -> Register<N>
+    requires { sb < 2 ^ 24 }
+    ensures { result ≡ logical N sb w.entry }
+{
+    let n = shifts(sb);
+    if sb < BIT_0 {
+        w.logical_left(n)
+    } else {
+        w.logical_right(n)
+    }
+}
+
+// AS
+pub fn arithmetic24(sb: u32, w: u32) -> Shifted
+    requires { (sb < 2 ^ 24) × (w < 2 ^ 24) }
+    ensures value { result ≡ arithmetic 24 sb w }
+    ensures bounds { (result.word < 2 ^ 24) × (result.over < 2) }
+{
+    arithmetic(sb, Register::<24>::new(u64::from(w)))
 }
 
 // AD, x is Wpre concat W.
@@ -73,49 +99,16 @@ pub fn arithmetic48(sb: u32, x: u64) -> Shifted
     ensures value { result ≡ arithmetic 48 sb x }
     ensures bounds { (result.word < 2 ^ 48) × (result.over < 2) }
 {
-    if sb < BIT_0 {
-        left48(count(sb), x)
-    } else {
-        Shifted {
-            word: right48(count(WORD_RANGE - sb), x),
-            over: 0,
-        }
-    }
+    arithmetic(sb, Register::<48>::new(x))
 }
 
-// AS: W stands at the left of 48 bits, where the sign is.
-pub fn arithmetic24(sb: u32, w: u32) -> Shifted
+// LS
+pub fn logical24(sb: u32, w: u32) -> u32
     requires { (sb < 2 ^ 24) × (w < 2 ^ 24) }
-    ensures value { result ≡ arithmetic 24 sb w }
-    ensures bounds { (result.word < 2 ^ 24) × (result.over < 2) }
+    ensures value { result ≡ logical 24 sb w }
+    ensures bound { result < 2 ^ 24 }
 {
-    let r = arithmetic48(sb, w as u64 * LONG_WORD_RANGE);
-    Shifted {
-        word: r.word / LONG_WORD_RANGE,
-        over: r.over,
-    }
-}
-
-fn logical_left48(n: u32, w: u64) -> u64
-    requires { w < 2 ^ 48 }
-    ensures { (result ≡ iter (shl 48) n w) × (result < 2 ^ 48) }
-{
-    let mut x = w;
-    for i in 0..n {
-        x = x * 2 % 281474976710656;
-    }
-    x
-}
-
-fn logical_right48(n: u32, w: u64) -> u64
-    requires { w < 2 ^ 48 }
-    ensures { (result ≡ iter shr n w) × (result < 2 ^ 48) }
-{
-    let mut x = w;
-    for i in 0..n {
-        x = x / 2;
-    }
-    x
+    logical(sb, Register::<24>::new(u64::from(w))).word()
 }
 
 // LD, x is Wpre concat W.
@@ -124,19 +117,5 @@ pub fn logical48(sb: u32, x: u64) -> u64
     ensures value { result ≡ logical 48 sb x }
     ensures bound { result < 2 ^ 48 }
 {
-    if sb < BIT_0 {
-        logical_left48(count(sb), x)
-    } else {
-        logical_right48(count(WORD_RANGE - sb), x)
-    }
-}
-
-// LS: W stands at the right of 48 bits.
-pub fn logical24(sb: u32, w: u32) -> u32
-    requires { (sb < 2 ^ 24) × (w < 2 ^ 24) }
-    ensures value { result ≡ logical 24 sb w }
-    ensures bound { result < 2 ^ 24 }
-{
-    let r = logical48(sb, w as u64);
-    (r % LONG_WORD_RANGE) as u32
+    logical(sb, Register::<48>::new(x)).bits()
 }

@@ -1,221 +1,163 @@
 // The judge of a load tape (document 01, "Load tape"; document 02, E4 and E6).
 #![tactic(auto)]
 
-ghost use Rattle.std.specs.Prelude.{◌≡◌, true, false, [], ◌+◌, ◌*◌, ◌≤◌, length};
-ghost use Rattle.acceptance.specs.Accept.{cells_fit};
-ghost use Rattle.definition_tape.specs.Layout.{cells_from, records_of};
-ghost use Rattle.definition_tape.specs.Judge.{kind_known, in_order, length_fits, judge_block, control_good, judge_control, judge_payload, judge_record, judge_records, judge_tape};
-ghost use Rattle.tape_judge.specs.Steps.{step_after, step_of};
+ghost use Rattle.std.specs.Prelude.{◌≡◌, true, false, [], ◌+◌, ◌≤◌, length, cond, leb, ltb, MatchResult};
+ghost use Rattle.machine.specs.declared.Refusal.TheVariants.{RecordOrder};
+ghost use Rattle.machine.specs.Verdicts.{Accepted, Rejected};
+ghost use Rattle.std.specs.Int.{w32, from_le_bytes};
+ghost use Rattle.std.specs.List.{list_all};
+ghost use Rattle.definition_tape.specs.Layout.{kind_of, length_of, records_of};
+ghost use Rattle.definition_tape.specs.Judge.{in_order, length_fits, judge_block, control_good, judge_control, judge_payload, judge_record, judge_records, judge_tape};
+ghost use Rattle.tape_records.specs.Kinds.{kind_number};
 
 use acceptance::CELL_RANGE;
 use definition_tape::MOST_BYTES;
-use machine::{Refusal, Verdict};
-use tape_records::{control_of, number_at, payload, record_kind, record_length, timer_of};
+use machine::Refusal;
+use tape_records::{
+    RecordKind, Records, cell_bytes, control_of, number_at, payload, record_kind, record_length,
+    timer_of,
+};
 
 // ---- the judge's tests on one record
 
-fn kind_known(k: u32) -> bool
-    ensures { result ≡ kind_known k }
-{
-    if k < 1 {
-        return false;
-    }
-    k <= 4
-}
-
 // `after`: the record before was the control record.
-fn in_order(after: bool, k: u32) -> bool
-    ensures { result ≡ in_order after k }
+#[tactic(auto, unfolding(definition_tape::specs::Judge::in_order))]
+fn in_order(after: bool, kind: RecordKind) -> bool
+    ensures { result ≡ in_order after (kind_number kind) }
 {
-    if after { k == 3 } else { k != 3 }
+    after == (kind == RecordKind::End)
 }
 
-fn length_fits(k: u32, l: usize) -> bool
-    ensures { result ≡ length_fits k l }
+#[tactic(auto, unfolding(definition_tape::specs::Judge::length_fits))]
+fn length_fits(kind: RecordKind, l: usize) -> bool
+    ensures { result ≡ length_fits (kind_number kind) l }
 {
-    if k == 1 {
-        if l % 4 != 0 {
-            return false;
-        }
-        return 8 <= l;
+    match kind {
+        RecordKind::Block => l % 4 == 0 && 8 <= l,
+        RecordKind::Control => l == 20 || l == 33,
+        RecordKind::End => l == 0,
+        RecordKind::Remark => l <= 255,
     }
-    if k == 2 {
-        if l == 20 {
-            return true;
-        }
-        return l == 33;
-    }
-    if k == 3 {
-        return l == 0;
-    }
-    l <= 255
 }
 
-fn block_cells_fit(p: &[u8], k: usize) -> bool
-    requires { 4 + 4 * k ≤ length p.now }
-    ensures { result ≡ cells_fit (cells_from p.now 4 k) }
+fn cells_fit(cells: &[[u8; 4]]) -> bool
+    ensures { result ≡ list_all (λ b. ltb (from_le_bytes w32 b) 134217728) cells.now }
 {
-    let mut i: usize = 0;
-    while i < k {
-        let x = number_at(p, 4 + 4 * i);
-        if x < CELL_RANGE {
-            i += 1;
-        } else {
-            return false;
-        }
-    }
-    true
+    cells
+        .iter()
+        .all(|cell| u32::from_le_bytes(*cell) < CELL_RANGE)
 }
 
 // `unnamed`: no earlier block names a cell of this one.
-fn judge_block(p: &[u8], cells: usize, unnamed: bool) -> Verdict
+#[tactic(auto, using(crate::proofs::Steps::fit_all), unfolding(definition_tape::specs::Judge::judge_block))]
+fn judge_block(p: &[u8], cells: usize, unnamed: bool) -> Result<(), Refusal>
     requires { 4 ≤ length p.now }
     ensures { result ≡ judge_block cells unnamed p.now }
 {
-    let first = number_at(p, 0) as usize;
-    let k = (p.len() - 4) / 4;
-    if first + k > cells {
-        return Verdict::Rejected(Refusal::BlockPlace);
+    let block = cell_bytes(p);
+    if number_at(p, 0) as usize + block.len() > cells {
+        return Err(Refusal::BlockPlace);
     }
     if !unnamed {
-        return Verdict::Rejected(Refusal::BlockOverlap);
+        return Err(Refusal::BlockOverlap);
     }
-    if !block_cells_fit(p, k) {
-        return Verdict::Rejected(Refusal::BlockCell);
+    if !cells_fit(block) {
+        return Err(Refusal::BlockCell);
     }
-    Verdict::Accepted
+    Ok(())
 }
 
+#[tactic(auto, unfolding(definition_tape::specs::Judge::control_good))]
 fn control_good(p: &[u8]) -> bool
     requires { 20 ≤ length p.now }
     ensures { result ≡ control_good p.now }
 {
-    if p[18] > 7 {
-        return false;
-    }
-    if p[19] != 0 {
-        return false;
-    }
-    let c = control_of(p);
-    acceptance::control_fits(c)
+    p[18] <= 7 && p[19] == 0 && acceptance::control_fits(control_of(p))
 }
 
 // 3, then 18.
-fn judge_control(p: &[u8]) -> Verdict
+#[tactic(auto, unfolding(definition_tape::specs::Judge::judge_control))]
+fn judge_control(p: &[u8]) -> Result<(), Refusal>
     requires { 20 ≤ length p.now }
     ensures { result ≡ judge_control p.now }
 {
     if !control_good(p) {
-        return Verdict::Rejected(Refusal::ControlField);
+        return Err(Refusal::ControlField);
     }
-    let t = timer_of(p);
-    if !acceptance::timer_fits(t) {
-        return Verdict::Rejected(Refusal::TimerField);
+    if !acceptance::timer_fits(timer_of(p)) {
+        return Err(Refusal::TimerField);
     }
-    Verdict::Accepted
+    Ok(())
 }
 
-fn judge_payload(p: &[u8], k: u32, cells: usize, unnamed: bool) -> Verdict
-    requires { length_fits k (length p.now) ≡ true }
-    ensures { result ≡ judge_payload cells unnamed k p.now }
+#[tactic(auto, unfolding(definition_tape::specs::Judge::judge_payload, definition_tape::specs::Judge::length_fits))]
+fn judge_payload(p: &[u8], kind: RecordKind, cells: usize, unnamed: bool) -> Result<(), Refusal>
+    requires { length_fits (kind_number kind) (length p.now) ≡ true }
+    ensures { result ≡ judge_payload cells unnamed (kind_number kind) p.now }
 {
-    if k == 1 {
-        return judge_block(p, cells, unnamed);
+    match kind {
+        RecordKind::Block => judge_block(p, cells, unnamed),
+        RecordKind::Control => judge_control(p),
+        RecordKind::End | RecordKind::Remark => Ok(()),
     }
-    if k == 2 {
-        return judge_control(p);
-    }
-    Verdict::Accepted
 }
 
-fn judge_record(t: &[u8], cells: usize, after: bool, unnamed: bool) -> Verdict
+// The kind of a good record.
+#[tactic(auto, unfolding(definition_tape::specs::Judge::judge_record))]
+fn judge_record(t: &[u8], cells: usize, after: bool, unnamed: bool) -> Result<RecordKind, Refusal>
     requires { 6 ≤ length t.now }
-    ensures { result ≡ judge_record cells after unnamed t.now }
+    ensures { MatchResult result (λ k. (kind_number k ≡ kind_of t.now) × (judge_record cells after unnamed t.now ≡ Accepted)) (λ q. judge_record cells after unnamed t.now ≡ Rejected q) }
 {
-    let k = record_kind(t);
+    let kind = RecordKind::try_from(record_kind(t))?;
     let l = record_length(t);
-    if !kind_known(k) {
-        return Verdict::Rejected(Refusal::RecordKind);
+    if !in_order(after, kind) {
+        return Err(Refusal::RecordOrder);
     }
-    if !in_order(after, k) {
-        return Verdict::Rejected(Refusal::RecordOrder);
-    }
-    if !length_fits(k, l) {
-        return Verdict::Rejected(Refusal::RecordLength);
+    if !length_fits(kind, l) {
+        return Err(Refusal::RecordLength);
     }
     if 6 + l > t.len() {
-        return Verdict::Rejected(Refusal::TapeEnds);
+        return Err(Refusal::TapeEnds);
     }
-    let p = payload(t);
-    judge_payload(p, k, cells, unnamed)
+    judge_payload(payload(t), kind, cells, unnamed)?;
+    Ok(kind)
 }
 
 // ---- the judge, record by record
 
-// What follows a record: the verdict, or the next record so many bytes further on; the flag says that this one was the control record.
-#[derive(Clone, Copy)]
-pub enum Step {
-    Done(Verdict),
-    Advance(usize, bool),
-}
-
-fn step_after(t: &[u8]) -> Step
+// Nothing follows the end.
+fn judge_end(t: &[u8]) -> Result<(), Refusal>
     requires { 6 ≤ length t.now }
-    ensures { result ≡ step_after t.now }
+    ensures { result ≡ cond (leb (length t.now) (6 + length_of t.now)) Accepted (Rejected RecordOrder) }
 {
-    let k = record_kind(t);
-    let next = 6 + record_length(t);
-    if k != 3 {
-        return Step::Advance(next, k == 2);
+    if t.len() > 6 + record_length(t) {
+        return Err(Refusal::RecordOrder);
     }
-    if t.len() > next {
-        return Step::Done(Verdict::Rejected(Refusal::RecordOrder));
-    }
-    Step::Done(Verdict::Accepted)
+    Ok(())
 }
 
-fn judge_step(t: &[u8], cells: usize, after: bool, unnamed: bool) -> Step
-    ensures { result ≡ step_of cells after unnamed t.now }
-{
-    if t.len() < 6 {
-        return Step::Done(Verdict::Rejected(Refusal::TapeEnds));
-    }
-    let v = judge_record(t, cells, after, unnamed);
-    match v {
-        Verdict::Accepted => step_after(t),
-        Verdict::Rejected(r) => Step::Done(Verdict::Rejected(r)),
-    }
-}
-
-fn judge_records(tape: &[u8], cells: usize) -> Verdict
+fn judge_records(tape: &[u8], cells: usize) -> Result<(), Refusal>
     ensures { result ≡ judge_records cells false [] (records_of tape.now) }
 {
     let first = tape_overlap::first_again(tape, cells);
-    let mut at: usize = 0;
-    let mut n: usize = 0;
     let mut after = false;
-    loop {
-        let unnamed = n != first;
-        let s = judge_step(&tape[at..], cells, after, unnamed);
-        match s {
-            Step::Done(v) => {
-                return v;
-            }
-            Step::Advance(bytes, control) => {
-                at += bytes;
-                n += 1;
-                after = control;
-            }
+    for (n, t) in Records::of(tape).enumerate() {
+        match judge_record(t, cells, after, first != Some(n))? {
+            RecordKind::End => return judge_end(t),
+            RecordKind::Control => after = true,
+            RecordKind::Block | RecordKind::Remark => after = false,
         }
     }
+    Err(Refusal::TapeEnds)
 }
 
 // The verdict on a tape for a store of so many cells.
-pub fn judge_tape(tape: &[u8], cells: usize) -> Verdict
+#[tactic(auto, unfolding(definition_tape::specs::Judge::judge_tape))]
+pub fn judge_tape(tape: &[u8], cells: usize) -> Result<(), Refusal>
     ensures { result ≡ judge_tape cells tape.now }
 {
     if tape.len() > MOST_BYTES {
-        return Verdict::Rejected(Refusal::TapeLength);
+        return Err(Refusal::TapeLength);
     }
     judge_records(tape, cells)
 }

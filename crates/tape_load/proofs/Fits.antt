@@ -1,6 +1,6 @@
 -- The records of an accepted tape are as the loader relies on: each block lies within the store, the control record comes, then only the end.
 -- Assumes nothing.
-use Prim.Native.Nat.{ℕ, ◌≤◌, ◌<◌}
+use Prim.Native.Nat.{ℕ, ◌+◌, ◌≤◌, ◌<◌}
 use mathlib.Core.Path.{◌≡◌, refl, ◌∙◌}
 use mathlib.Core.Bool.{Bool, true, false}
 use mathlib.Core.List.{List, [], ◌∷◌}
@@ -8,14 +8,18 @@ use native.Mathlib.Omega.{arith}
 use borrow.Author.Tests.{eq-eqb, ne_eqb, eqb-true}
 use lib.ListN.{length}
 use lib.Dec.{eqb}
-use Rattle.machine.specs.declared.Verdict.TheVariants.{Accepted}
-use Rattle.definition_tape.specs.Layout.{length_of, kind_of, payload_of, rest_of, records_of}
+use Rattle.machine.specs.Verdicts.{Accepted}
+use Rattle.definition_tape.specs.Layout.{length_of, kind_of, payload_of, rest_of, records_of, first_cell, cell_count}
 use Rattle.definition_tape.specs.Judge.{in_order, judge_tape}
 use Rattle.definition_tape.specs.Load.{load_record, load_records}
 use Rattle.definition_tape.proofs.Records.{length_rest}
 use Rattle.definition_tape.proofs.Loads.{load_more, load_none}
 use Rattle.definition_tape.proofs.Judged.{Good, Judged, last, more, block_length, block_payload, control_least, tape_judged, no_end}
-use Rattle.tape_load.specs.Fits.{RecordFits}
+
+-- a whole record whose block, if it is one, lies within n cells
+pub record RecordFits (n : ℕ) (t : List ℕ) : Type 0 where
+  pub whole : 6 + length_of t ≤ length t
+  pub block : kind_of t ≡ 1 → (4 ≤ length_of t) × (first_cell (payload_of t) + cell_count (payload_of t) ≤ n)
 
 record_fits : {n : ℕ} {after u : Bool} {t : List ℕ} → Good n after u t → RecordFits n t
 record_fits {n} {after} {u} {t} g =

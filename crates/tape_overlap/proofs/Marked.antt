@@ -8,6 +8,7 @@ use native.Mathlib.Omega.{arith}
 use native.Mathlib.Decide.{dec_lt, ℕ_discrete}
 use native.Mathlib.Nat.{zero-div}
 use lib.ListN.{length, take, replicate, get_or-replicate}
+use lib.Seq.{take_all}
 use Rattle.definition_tape.specs.Layout.{records_of}
 use Rattle.definition_tape.specs.Judge.{names, times_named}
 use Rattle.tape_overlap.specs.declared.Cells.{Cells}
@@ -15,7 +16,7 @@ use Rattle.tape_overlap.specs.Again.{is_whole, cells_of, bit_at, mark_at, with_m
 use Rattle.tape_overlap.specs.Again.Stop.{again}
 use Rattle.tape_overlap.proofs.Names.{named, unnamed, named_in}
 use Rattle.tape_overlap.proofs.Bits.{mark_set, mark_other}
-use Rattle.tape_overlap.proofs.Passes.{lent, Passed, passed_is, passed_times}
+use Rattle.tape_overlap.proofs.Passes.{Passed, passed_is, passed_times}
 
 -- ---- one place after another
 
@@ -107,17 +108,17 @@ marks_none low n h = record { counts = λ j l. rw (get_or-replicate {A = ℕ} n 
     none : (d : ℕ) → 0 / d % 2 ≡ 0
     none d = rw (zero-div d)
 
-module _ (low : ℕ) (tape m : List ℕ) (at n : ℕ) (p : Passed tape at n) (w : is_whole (lent tape at) ≡ true) where
-  pub marks_next : Marks low (lent tape at ∷ take n (records_of tape)) m → Marks low (take (n + 1) (records_of tape)) m
+module _ (low n : ℕ) (ts more rest : List (List ℕ)) (t m : List ℕ) (p : Passed ts more n) (e : more ≡ t ∷ rest) where
+  pub marks_next : Marks low (t ∷ take n ts) m → Marks low (take (n + 1) ts) m
   unfolding times_named
   marks_next k =
       record {
-        counts = λ j l. omega (arith, k.counts j l, passed_times tape at n p w (low + j));
-        once = λ j l. omega (arith, k.once j l, passed_times tape at n p w (low + j));
+        counts = λ j l. omega (arith, k.counts j l, passed_times ts more rest n t p e (low + j));
+        once = λ j l. omega (arith, k.once j l, passed_times ts more rest n t p e (low + j));
       }
 
-  pub stop_again : Marks low (take n (records_of tape)) m → NamesMarked low (lent tape at) m → Stop (records_of tape) n
-  stop_again k s = again (low + s.place) (rw (passed_is tape at n p w) s.named) (omega (arith, s.mark, k.counts s.place s.below))
+  pub stop_again : Marks low (take n ts) m → NamesMarked low t m → Stop ts n
+  stop_again k s = again (low + s.place) (rw (passed_is ts more rest n t p e) s.named) (omega (arith, s.mark, k.counts s.place s.below))
 
 -- what is left of the cells that the records before n name
 abbrev pub Unnamed : List (List ℕ) → ℕ → ℕ → Type 0
@@ -127,21 +128,30 @@ pub searched : (low most : ℕ) (ts : List (List ℕ)) (n high : ℕ) (m : List 
     → SearchedPart low most ts (record { first = n; high = high })
 searched low most ts n high m h k u s = record { bound = h; once = k.once; beyond = u; stop = s }
 
-pub searched_all : (low most : ℕ) (ts : List (List ℕ)) (n high : ℕ) (m : List ℕ) → n ≡ most → Marks low (take n ts) m → Unnamed ts n high
+-- no record is left, or `most` are passed
+pub searched_all : (low most : ℕ) (ts : List (List ℕ)) (n high : ℕ) (m : List ℕ) → (n ≡ most) ⊎ (n ≤ most) × (length ts ≤ n) → Marks low (take n ts) m → Unnamed ts n high
     → SearchedPart low most ts (record { first = most; high = high })
-searched_all low most ts n high m e k u = rw e at (searched low most ts n high m (omega arith) k u (inl e))
+searched_all low most ts n high m (inl e) k u = rw e at (searched low most ts n high m (omega arith) k u (inl e))
+searched_all low most ts n high m (inr h) k u =
+    let all : take n ts ≡ take most ts = take_all n ts h.1 ∙ sym (take_all most ts (omega (arith, h))) in
+    record {
+      bound = omega arith;
+      once = rw all at k.once;
+      beyond = rw all at u;
+      stop = inl refl;
+    }
 
 pub unnamed_none : (ts : List (List ℕ)) → Unnamed ts 0 0
 unfolding times_named
 unnamed_none ts i h = refl
 
-pub unnamed_next : (tape : List ℕ) (at n high new : ℕ) (c : Cells) → Passed tape at n → is_whole (lent tape at) ≡ true → c ≡ cells_of (lent tape at)
-    → (high ≤ new) × (c.to ≤ new) → Unnamed (records_of tape) n high → Unnamed (records_of tape) (n + 1) new
-unnamed_next tape at n high new c p w d g u i h = rw (passed_times tape at n p w i) (at_cell (names (lent tape at) i) refl)
+pub unnamed_next : (ts more rest : List (List ℕ)) (n high new : ℕ) (t : List ℕ) (c : Cells) → Passed ts more n → more ≡ t ∷ rest → is_whole t ≡ true → c ≡ cells_of t
+    → (high ≤ new) × (c.to ≤ new) → Unnamed ts n high → Unnamed ts (n + 1) new
+unnamed_next ts more rest n high new t c p e w d g u i h = rw (passed_times ts more rest n t p e i) (at_cell (names t i) refl)
   where
-    at_cell : (b : Bool) → names (lent tape at) i ≡ b → times_named (take n (records_of tape)) i + cond b 1 0 ≡ 0
-    at_cell true e =
-        let k = named (lent tape at) i w e in
+    at_cell : (b : Bool) → names t i ≡ b → times_named (take n ts) i + cond b 1 0 ≡ 0
+    at_cell true q =
+        let k = named t i w q in
         let no : ⊥ = omega (arith, k, rw d at g.1) in
         absurd no
-    at_cell false e = omega (arith, u i (omega (arith, g.0)))
+    at_cell false q = omega (arith, u i (omega (arith, g.0)))

@@ -41,59 +41,40 @@ module _ (ts : List (List ℕ)) (n : ℕ) (t : List ℕ) (rest : List (List ℕ)
 
 -- ---- along a tape
 
--- `&tape[at..]` as it is lent
-abbrev pub lent : List ℕ → ℕ → List ℕ
-lent tape at = take (length tape - at) (drop at tape)
+-- after the first n records of the row ts those of `more` are left
+pub record Passed (ts more : List (List ℕ)) (n : ℕ) : Type 0 where
+  pub rest : more ≡ drop n ts
 
--- after n records the tape goes on at the place `at`
-pub record Passed (tape : List ℕ) (at n : ℕ) : Type 0 where
-  pub rest : records_of (drop at tape) ≡ drop n (records_of tape)
+pub passed_all : (ts more : List (List ℕ)) (n : ℕ) → Passed ts more n → more ≡ [] → length ts ≤ n
+passed_all ts more n p e = omega (arith, length-drop n ts, ap length (sym p.rest ∙ e))
 
-pub row : (tape : List ℕ) (at n : ℕ) → Passed tape at n → 6 ≤ length (drop at tape)
-    → drop n (records_of tape) ≡ drop at tape ∷ records_of (rest_of (drop at tape))
-row tape at n p h = sym p.rest ∙ records_more (drop at tape) h
+module _ (ts more rest : List (List ℕ)) (n : ℕ) (t : List ℕ) (p : Passed ts more n) (e : more ≡ t ∷ rest) where
+  here : drop n ts ≡ t ∷ rest
+  here = sym p.rest ∙ e
 
-no_row : (tape : List ℕ) (at n : ℕ) → Passed tape at n → length (drop at tape) < 6 → length (records_of tape) ≤ n
-no_row tape at n p h = omega (arith, length-drop n (records_of tape), ap length (sym p.rest ∙ records_none (drop at tape) h))
+  pub passed_is : get_or ts n [] ≡ t
+  passed_is = is ts n t rest here
 
--- a record that is not whole, or no record
-pub stop_at : (tape : List ℕ) (at n : ℕ) → Passed tape at n → is_whole (lent tape at) ≡ false → Stop (records_of tape) n
-stop_at tape at n p w = by (ltb (length (drop at tape)) 6) refl
-  where
-    by : (b : Bool) → ltb (length (drop at tape)) 6 ≡ b → Stop (records_of tape) n
-    by true e = after (no_row tape at n p (ltb-true (length (drop at tape)) 6 e))
-    by false e = broken (rw (is (records_of tape) n (drop at tape) _ (row tape at n p (ltb-false (length (drop at tape)) 6 e)), ← tail at tape) w)
+  pub passed_times : (i : ℕ) → times_named (take (n + 1) ts) i ≡ times_named (take n ts) i + cond (names t i) 1 0
+  passed_times i = times ts n t rest here i
 
-module _ (tape : List ℕ) (at n : ℕ) (p : Passed tape at n) (w : is_whole (lent tape at) ≡ true) where
-  here : drop n (records_of tape) ≡ drop at tape ∷ records_of (rest_of (drop at tape))
-  here = row tape at n p (omega (arith, whole_fits (lent tape at) w, length_tail at tape, length-drop at tape))
+  pub passed_next : Passed ts rest (n + 1)
+  passed_next = record { rest = sym (left ts n t rest here) }
 
-  pub passed_is : get_or (records_of tape) n [] ≡ lent tape at
-  passed_is = rw (tail at tape) (is (records_of tape) n (drop at tape) _ here)
-
-  pub passed_times : (i : ℕ) → times_named (take (n + 1) (records_of tape)) i ≡ times_named (take n (records_of tape)) i + cond (names (lent tape at) i) 1 0
-  passed_times i = rw (tail at tape) (times (records_of tape) n (drop at tape) _ here i)
-
-  pub passed_within : (r : ℕ) → r ≡ length_of (lent tape at) → at + (6 + r) ≤ length tape
-  passed_within r e = omega (arith, whole_fits (lent tape at) w, length_tail at tape, e)
-
-  pub passed_next : (r : ℕ) → r ≡ length_of (lent tape at) → Passed tape (at + (6 + r)) (n + 1)
-  unfolding rest_of
-  passed_next r e =
-      let next : drop (6 + length_of (drop at tape)) (drop at tape) ≡ drop (at + (6 + r)) tape =
-      drop-drop (6 + length_of (drop at tape)) at tape ∙ ap (λ (j : ℕ). drop (at + (6 + j)) tape) (sym (rw (tail at tape) at e)) in
-      record { rest = ap records_of (sym next) ∙ sym (left (records_of tape) n (drop at tape) _ here) }
+  -- a record that is not whole
+  pub stop_at : is_whole t ≡ false → Stop ts n
+  stop_at w = broken (rw passed_is w)
 
 -- ---- blocks that rise: no cell from `high` on is named so far
-pub record Risen (tape : List ℕ) (at high : ℕ) : Type 0 where
+pub record Risen (ts more : List (List ℕ)) (high : ℕ) : Type 0 where
   pub count : ℕ
-  pub passed : Passed tape at count
-  pub once : (i : ℕ) → times_named (take count (records_of tape)) i ≤ 1
-  pub none : (i : ℕ) → high ≤ i → times_named (take count (records_of tape)) i ≡ 0
+  pub passed : Passed ts more count
+  pub once : (i : ℕ) → times_named (take count ts) i ≤ 1
+  pub none : (i : ℕ) → high ≤ i → times_named (take count ts) i ≡ 0
 
-pub risen_none : (tape : List ℕ) → Risen tape 0 0
+pub risen_none : (ts : List (List ℕ)) → Risen ts ts 0
 unfolding times_named
-risen_none tape = record { count = 0; passed = record { rest = refl }; once = λ i. omega arith; none = λ i h. refl }
+risen_none ts = record { count = 0; passed = record { rest = refl }; once = λ i. omega arith; none = λ i h. refl }
 
 -- the cells of a record, if there are any, are not below high and are below the new one
 abbrev pub Rises : Cells → ℕ → ℕ → Type 0
@@ -113,31 +94,26 @@ module _ (t : List ℕ) (high new x i : ℕ) (w : is_whole t ≡ true) (s : Rise
       absurd no
   rise_none false e h = omega (arith, z (omega (arith, s.0)))
 
-pub risen_next : (tape : List ℕ) (at high new r : ℕ) (c : Cells) → Risen tape at high → is_whole (lent tape at) ≡ true → c ≡ cells_of (lent tape at) → Rises c high new
-    → r ≡ length_of (lent tape at) → Risen tape (at + (6 + r)) new
-risen_next tape at high new r c h w d g e =
-    let t = lent tape at in
+pub risen_next : (ts more rest : List (List ℕ)) (t : List ℕ) (high new : ℕ) (c : Cells) → Risen ts more high → more ≡ t ∷ rest → is_whole t ≡ true → c ≡ cells_of t
+    → Rises c high new → Risen ts rest new
+risen_next ts more rest t high new c h e w d g =
     let s = rw d at g in
     record {
       count = h.count + 1;
-      passed = passed_next tape at h.count h.passed w r e;
-      once = λ i. rw (passed_times tape at h.count h.passed w i) (rise_once t high new _ i w s (h.once i) (h.none i) (names t i) refl);
-      none = λ i l. rw (passed_times tape at h.count h.passed w i) (rise_none t high new _ i w s (h.once i) (h.none i) (names t i) refl l);
+      passed = passed_next ts more rest h.count t h.passed e;
+      once = λ i. rw (passed_times ts more rest h.count t h.passed e i) (rise_once t high new _ i w s (h.once i) (h.none i) (names t i) refl);
+      none = λ i l. rw (passed_times ts more rest h.count t h.passed e i) (rise_none t high new _ i w s (h.once i) (h.none i) (names t i) refl l);
     }
 
-pub risen_all : (tape : List ℕ) (at high : ℕ) → Risen tape at high → length tape - at < 6 → (i : ℕ) → times_named (records_of tape) i ≤ 1
-risen_all tape at high h l i =
-    let all = take_all h.count (records_of tape) (no_row tape at h.count h.passed (omega (arith, length-drop at tape))) in
+pub risen_all : (ts more : List (List ℕ)) (high : ℕ) → Risen ts more high → more ≡ [] → (i : ℕ) → times_named ts i ≤ 1
+risen_all ts more high h e i =
+    let all = take_all h.count ts (passed_all ts more h.count h.passed e) in
     rw all at (h.once i)
 
 -- ---- the search
 
-pub first_none : (tape : List ℕ) (n : ℕ) → ((i : ℕ) → times_named (records_of tape) i ≤ 1) → FirstAgain n (records_of tape) (length tape)
-first_none tape n o =
-    record {
-      once = λ i h. rw (take_all (length tape) (records_of tape) (records_count tape)) (o i);
-      stop = after (records_count tape);
-    }
+pub first_none : (n : ℕ) (ts : List (List ℕ)) → ((i : ℕ) → times_named ts i ≤ 1) → FirstAgain n ts (length ts)
+first_none n ts o = record { once = λ i h. rw (take_all (length ts) ts (omega arith)) (o i); stop = after (omega arith) }
 
 -- what a search has found before the record n: no cell below 262,144 and none from `left` on is named twice
 pub record Found (cells left : ℕ) (ts : List (List ℕ)) (n : ℕ) : Type 0 where

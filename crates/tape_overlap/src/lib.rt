@@ -2,12 +2,12 @@
 // are marked as they are named, so many at a time as the marks have places for.
 #![tactic(auto)]
 
-ghost use Rattle.std.specs.Prelude.{◌≡◌, true, false, List, [], ◌∷◌, ℕ, ◌+◌, ◌-◌, ◌*◌, ◌^◌, ◌≤◌, ◌<◌, min, max, length};
+ghost use Rattle.std.specs.Prelude.{◌≡◌, true, false, List, [], ◌∷◌, ℕ, ◌+◌, ◌-◌, ◌*◌, ◌^◌, ◌≤◌, ◌<◌, min, length, unwrap_or};
 ghost use Rattle.definition_tape.specs.Layout.{records_of, first_cell, cell_count};
 ghost use Rattle.definition_tape.specs.Judge.{times_named};
 ghost use Rattle.tape_overlap.specs.Again.{is_whole, cells_of, bit_at, mark_at, with_mark, MarkedFrom, Met, Marks, NamesMarked, SearchedPart, FirstAgain};
 
-use tape_records::{number_at, payload, record_kind, record_length};
+use tape_records::{Records, number_at, payload, record_kind, record_length};
 
 const WORDS: usize = 8192;
 
@@ -65,10 +65,8 @@ fn cells_named(t: &[u8]) -> Cells
 fn rising(tape: &[u8]) -> bool
     ensures { result ≡ true → (i : ℕ) → times_named (records_of tape.now) i ≤ 1 }
 {
-    let mut at: usize = 0;
     let mut high: usize = 0;
-    while 6 <= tape.len() - at {
-        let t = &tape[at..];
+    for t in Records::of(tape) {
         if !whole(t) {
             return false;
         }
@@ -79,31 +77,15 @@ fn rising(tape: &[u8]) -> bool
             }
             high = c.to;
         }
-        at += 6 + record_length(t);
     }
     true
-}
-
-fn smaller(a: usize, b: usize) -> usize
-    ensures { result ≡ min a b }
-{
-    if a < b { a } else { b }
-}
-
-fn larger(a: usize, b: usize) -> usize
-    ensures { result ≡ max a b }
-{
-    if a < b { b } else { a }
 }
 
 // The place of the cell i, where the cell `low` has place 0: 0 for a cell before it, PLACES for one after the last place.
 fn place(i: usize, low: usize) -> usize
     ensures { result ≡ min (i - low) 262144 }
 {
-    if i < low {
-        return 0;
-    }
-    smaller(i - low, PLACES)
+    i.saturating_sub(low).min(PLACES)
 }
 
 fn mark_at(marks: &[u32], i: usize) -> u32
@@ -141,13 +123,11 @@ fn mark(marks: &mut [u32], a: usize, e: usize) -> bool
     ensures passed { result ≡ false → MarkedFrom a e marks.old marks.new }
     ensures met { result ≡ true → Met a e marks.old }
 {
-    let mut i = a;
-    while i < e {
+    for i in a..e {
         if mark_at(marks, i) != 0 {
             return true;
         }
         set_mark(marks, i);
-        i += 1;
     }
     false
 }
@@ -167,33 +147,18 @@ fn mark_records(marks: &mut [u32], tape: &[u8], low: usize, most: usize) -> Sear
     requires { (length marks.old ≡ 8192) × Marks low [] marks.old }
     ensures { SearchedPart low most (records_of tape.now) result }
 {
-    let mut at: usize = 0;
-    let mut n: usize = 0;
     let mut high: usize = 0;
-    while n < most {
-        let t = &tape[at..];
+    for (n, t) in Records::of(tape).take(most).enumerate() {
         if !whole(t) {
-            return Searched {
-                first: n,
-                high: high,
-            };
+            return Searched { first: n, high };
         }
         let c = cells_named(t);
-        let to = c.to;
         if mark_cells(marks, c, low) {
-            return Searched {
-                first: n,
-                high: high,
-            };
+            return Searched { first: n, high };
         }
-        high = larger(high, to);
-        at += 6 + record_length(t);
-        n += 1;
+        high = high.max(c.to);
     }
-    Searched {
-        first: most,
-        high: high,
-    }
+    Searched { first: most, high }
 }
 
 fn search_part(tape: &[u8], low: usize, most: usize) -> Searched
@@ -210,7 +175,8 @@ fn search(tape: &[u8], cells: usize) -> usize
 {
     let front = search_part(tape, 0, tape.len());
     let mut n = front.first;
-    let mut left = smaller(front.high, cells);
+    let mut left = front.high.min(cells);
+    // down by whole parts while more than one is left: a range with a step is no plainer
     while PLACES < left {
         left -= PLACES;
         let part = search_part(tape, left, n);
@@ -219,13 +185,14 @@ fn search(tape: &[u8], cells: usize) -> usize
     n
 }
 
-// The number, counted from 0, of the first record that names a cell again or is not whole; one that no record has where there is neither.
-pub fn first_again(tape: &[u8], cells: usize) -> usize
-    ensures bound { result ≤ length tape.now }
-    ensures first { FirstAgain cells (records_of tape.now) result }
+// The number, counted from 0, of the first record that names a cell again or is not whole; None where the blocks rise. It may be one that no record has.
+pub fn first_again(tape: &[u8], cells: usize) -> Option<usize>
+    ensures bound { unwrap_or result 0 ≤ length tape.now }
+    ensures first { FirstAgain cells (records_of tape.now) (unwrap_or result (length (records_of tape.now))) }
 {
     if rising(tape) {
-        return tape.len();
+        None
+    } else {
+        Some(search(tape, cells))
     }
-    search(tape, cells)
 }

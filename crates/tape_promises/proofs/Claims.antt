@@ -9,8 +9,7 @@ use lib.ListN.{length, get_or, replicate, length-replicate}
 use lib.Seq.{ext_get_or}
 use Rattle.machine.specs.declared.Record.{Record}
 use Rattle.machine.specs.declared.Refusal.TheVariants.{CellValue, StoreSize}
-use Rattle.machine.specs.declared.Verdict.{Verdict}
-use Rattle.machine.specs.declared.Verdict.TheVariants.{Accepted, Rejected}
+use Rattle.machine.specs.Verdicts.{Verdict, Accepted, Rejected}
 use Rattle.acceptance.proofs.Tests.{passed, refused}
 use Rattle.acceptance.specs.Accept.{size_fits, cells_fit, judge_store, judge_registers, judge_machine}
 use Rattle.definition_tape.specs.Layout.{records_of, timer_of, control_record_of}

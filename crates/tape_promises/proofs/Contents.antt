@@ -10,7 +10,7 @@ use borrow.Author.Tests.{lt-ltb, le-ltb, ne_eqb, eqb-true, eqb-false}
 use lib.ListN.{length, take, drop, get_or, length-append, length-take, length-drop, get_or-append}
 use lib.Seq.{get_or-take, get_or-drop, get_or-append-add, take-nil}
 use lib.Dec.{ltb, eqb}
-use Rattle.machine.specs.declared.Verdict.TheVariants.{Accepted}
+use Rattle.machine.specs.Verdicts.{Accepted}
 use Rattle.acceptance.proofs.Tests.{both}
 use Rattle.acceptance.specs.Accept.{cells_fit}
 use Rattle.definition_tape.specs.Blocks.{Block, Names, Named, NamedOnce}

@@ -11,7 +11,7 @@ use lib.ListN.{length, take, drop, get_or, length-append, length-take, take-appe
 use lib.Seq.{take-append_seam, drop-append_seam, drop-drop, get_or-take}
 use lib.Dec.{leb, ltb, eqb}
 use Rattle.machine.specs.declared.Timer.{Timer}
-use Rattle.machine.specs.declared.Verdict.TheVariants.{Accepted}
+use Rattle.machine.specs.Verdicts.{Accepted}
 use Rattle.acceptance.specs.Accept.{timer_fits}
 use Rattle.acceptance.proofs.Tests.{both, neither}
 use Rattle.definition_tape.specs.Layout.{number_at, length_of, kind_of, payload_of, rest_of, records_of, first_cell, cell_count, flags_of, zero_byte, timer_of}

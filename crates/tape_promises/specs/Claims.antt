@@ -4,7 +4,7 @@ use Rattle.std.specs.Prelude.{ℕ, ◌-◌, ◌≤◌, ◌<◌, ◌≡◌, true,
 use Rattle.machine.specs.Answers.{refusal_number}
 use Rattle.machine.specs.declared.Record.{Record}
 use Rattle.machine.specs.declared.Refusal.{Refusal}
-use Rattle.machine.specs.declared.Verdict.TheVariants.{Accepted, Rejected}
+use Rattle.machine.specs.Verdicts.{Accepted, Rejected}
 use Rattle.acceptance.specs.Accept.{size_fits, cells_fit, judge_store, judge_machine}
 use Rattle.definition_tape.specs.Layout.{records_of, NamesCell}
 use Rattle.definition_tape.specs.Blocks.{Named}

@@ -4,7 +4,7 @@ use Rattle.std.specs.Prelude.{ℕ, ◌+◌, ◌-◌, ◌*◌, ◌≡◌, Bool, t
 use Rattle.machine.specs.declared.Control.{Control}
 use Rattle.machine.specs.declared.Timer.{Timer}
 use Rattle.machine.specs.declared.Record.{Record}
-use Rattle.definition_tape.specs.declared.Span.{Span}
+use Rattle.definition_tape.specs.Remark.{Span}
 use Rattle.definition_tape.specs.Layout.{number_at, flags_of}
 use Rattle.definition_tape.specs.Blocks.{Block, Names, Named}
 use Rattle.tape_promises.specs.Grammar.{Records, block_then, remark_then, control_then_end}

@@ -1,2 +1,4 @@
 pub mod Lent
-pub mod Hunted
+pub mod Numbers
+pub mod Cells
+pub mod Rows

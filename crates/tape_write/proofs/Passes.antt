@@ -1,13 +1,13 @@
 -- The two passes over the store: in each turn zero cells, or one stretch and the zero that ends it. Assumes nothing.
 use Prim.Native.Nat.{ℕ, zero, suc, ◌+◌, ◌-◌, ◌≤◌, ◌<◌}
 use mathlib.Core.Path.{◌≡◌, refl, sym, ap, ◌∙◌}
-use mathlib.Core.Bool.{Bool, true, false, true≢false}
+use mathlib.Core.Bool.{Bool, true, false, cond, true≢false}
 use mathlib.Core.List.{List, [], ◌∷◌, ◌++◌}
 use native.Mathlib.Numerals.{add-one}
 use native.Mathlib.Omega.{arith}
 use native.Mathlib.Nat.{add-sub_cancel_left}
 use borrow.Author.Tests.{leb-true, leb-false}
-use lib.Dec.{leb, eqb-suc-zero}
+use lib.Dec.{eqb, leb, eqb-suc-zero}
 use lib.ListN.{length, take, drop, get_or, length-append, length-drop, drop_of_length-le}
 use lib.Seq.{drop-cons, drop-drop, length-take-le}
 use Rattle.definition_tape.specs.Blocks.{Block, stretch, blocks_from, store_blocks}
@@ -130,3 +130,17 @@ length_done s i t n h e = let z = ap length (blocks_none s i h) in omega arith
 pub put_done : (o w bs : List ℕ) (at : ℕ) → length bs ≡ 0 → put o at bs ≡ w → o ≡ w
 put_done o w [] at h e = sym (put_none o at) ∙ e
 put_done o w (b ∷ bs) at h e = let no : ⊥ = omega arith in absurd no
+
+-- ---- cells tested for zero together
+
+pub zero_step : (s : List ℕ) (i : ℕ) → i < length s → all_zero (drop i s) ≡ cond (eqb (get_or s i 0) 0) (all_zero (drop (i + 1) s)) false
+unfolding all_zero
+zero_step s i h = rw (add-one i, drop-cons s i 0 h)
+
+pub never_zero : (z : Bool) → false ≡ cond z false false
+never_zero true = refl
+never_zero false = refl
+
+pub zero_or_not : (z : Bool) → z ≡ cond z true false
+zero_or_not true = refl
+zero_or_not false = refl

@@ -5,6 +5,7 @@ use mathlib.Core.List.{List, [], ◌∷◌, ◌++◌, append_assoc}
 use native.Mathlib.Numerals.{add-one, add-two, add-three}
 use native.Mathlib.Nat.{mod-eq_of_lt}
 use native.Mathlib.Omega.{arith}
+use borrow.Rule.Slice.PartMut.{put_mid}
 use lib.ListN.{length, take, drop, get_or, set, length-append, length-take, length-drop, take-append-drop}
 use lib.Seq.{take_at, drop_at, drop-drop, length-take-le, set_split, sets-eq, take-suc, take-length}
 use Rattle.machine.specs.declared.Timer.{Timer}
@@ -67,6 +68,12 @@ one_store : (o : List ℕ) (at x : ℕ) → at < length o → set o at x ≡ put
 unfolding put
 one_store o at x h = rw (add-one at) (set_split o at x h)
 
+-- ---- a part of the buffer written at once
+
+pub part_put : (o x bs : List ℕ) (at k : ℕ) → x ≡ bs → k ≡ length bs → put_mid at k o x ≡ put o at bs
+unfolding put
+part_put o x bs at k e h = rw (e, h) (ap (λ (r : List ℕ). take at o ++ (bs ++ r)) (drop-drop (length bs) at o))
+
 -- ---- a header, a control record
 
 pub header_put : (o₀ o₁ o₂ : List ℕ) (at k l : ℕ) → at ≤ length o₀ → o₁ ≡ put o₀ at (bytes4 l) → o₂ ≡ put o₁ (at + 4) (bytes2 k) → o₂ ≡ put o₀ at (header_bytes k l)
@@ -94,21 +101,6 @@ control_put o₀ o₁ o₂ o₃ o₄ o₅ o₆ o₇ at r h e₁ e₂ e₃ e₄ e
     let f₅ = put_then o₀ o₄ o₅ at (at + 18) _ _ f₄ e₅ refl h in
     let f₆ = put_then o₀ o₅ o₆ at (at + 22) _ _ f₅ e₆ refl h in
     put_then o₀ o₆ o₇ at (at + 26) _ _ f₆ e₇ refl h
-
--- ---- a text
-
-pub text_none : (o : List ℕ) (at : ℕ) → o ≡ put o at []
-text_none o at = sym (put_none o at)
-
-pub text_more : (o₀ o₁ : List ℕ) (at i : ℕ) (t : List ℕ) → at + length t ≤ length o₀ → length o₁ ≡ length o₀ → i < length t → o₁ ≡ put o₀ at (take i t)
-    → set o₁ (at + i) (get_or t i 0) ≡ put o₀ at (take (i + 1) t)
-text_more o₀ o₁ at i t h k l e =
-    let n : length (take i t) ≡ i = length-take-le i t (omega arith) in
-    rw (add-one i, take-suc t i 0 l)
-    (put_then o₀ o₁ _ at (at + i) (take i t) (get_or t i 0 ∷ []) e (one_store o₁ (at + i) (get_or t i 0) (omega arith)) (rw n) (omega arith))
-
-pub text_all : (o₀ o₁ : List ℕ) (at i : ℕ) (t : List ℕ) → i ≡ length t → o₁ ≡ put o₀ at (take i t) → o₁ ≡ put o₀ at t
-text_all o₀ o₁ at i t e f = f ∙ rw (e, take-length t)
 
 -- ---- cells
 

@@ -1,7 +1,7 @@
 -- The whole tape: its parts put one after the other, and the ways out of the writer. Assumes nothing.
 use Prim.Native.Nat.{ℕ, ◌+◌, ◌≤◌, ◌<◌}
 use mathlib.Core.Path.{◌≡◌, refl, sym, ap, ◌∙◌}
-use mathlib.Core.Bool.{Bool, true, false}
+use mathlib.Core.Bool.{true, false}
 use mathlib.Core.Option.{Option, none, some}
 use mathlib.Core.List.{List, ◌++◌, append_assoc, append-nil}
 use native.Mathlib.Omega.{arith}
@@ -10,44 +10,30 @@ use lib.ListN.{length, length-append}
 use Rattle.machine.specs.declared.Record.{Record}
 use Rattle.machine.specs.declared.Refusal.{Refusal}
 use Rattle.machine.specs.declared.Refusal.TheVariants.{RemarkLength, WrittenLength, BufferLength}
-use Rattle.machine.specs.declared.Verdict.{Verdict}
-use Rattle.machine.specs.declared.Verdict.TheVariants.{Accepted, Rejected}
+use Rattle.machine.specs.Verdicts.{Verdict, Accepted, Rejected}
 use Rattle.acceptance.specs.Accept.{judge_machine}
-use Rattle.definition_tape.specs.declared.Written.{Written}
+use Rattle.definition_tape.specs.Writing.{Written}
 use Rattle.definition_tape.specs.Blocks.{store_blocks}
 use Rattle.definition_tape.specs.Bytes.{header_bytes, record_bytes, blocks_bytes, control_bytes, remark_record, tape_of}
-use Rattle.definition_tape.specs.Writing.{remark_of, remark_fits, judge_size, judge_parts, judge_writing, writing}
+use Rattle.definition_tape.specs.Writing.{remark_fits, judge_size, judge_parts, judge_writing, writing}
 use Rattle.tape_write.specs.Steps.{put, written_as}
 use Rattle.definition_tape.proofs.Bytes.{length_record, length_control}
 use Rattle.tape_write.proofs.Puts.{put_then, put_none, put_first}
 
 -- ---- the remark
 
-pub remark_short : (b : Bool) (t : List ℕ) → b ≡ true → remark_fits (remark_of b t) ≡ true → length t ≤ 255
-unfolding remark_fits
-remark_short true t e f = leb-true (length t) 255 f
-remark_short false t e f = let no : ⊥ = (let z : ◌≡◌ {A = ℕ} 0 1 = cc in omega arith) in absurd no
-
-pub remark_size : (b : Bool) (t : List ℕ) → b ≡ true → length (remark_record (remark_of b t)) ≡ 6 + length t
-unfolding remark_record
-remark_size b t e = rw e (length_record 4 t)
-
-pub no_remark_size : (b : Bool) (t : List ℕ) → b ≡ false → length (remark_record (remark_of b t)) ≡ 0
-unfolding remark_record
-no_remark_size b t e = rw e
-
 pub remark_small : (m : Option (List ℕ)) → remark_fits m ≡ true → length (remark_record m) ≤ 261
 unfolding remark_fits remark_record
 remark_small none f = omega arith
 remark_small (some r) f = let l = leb-true (length r) 255 f in omega (arith, length_record 4 r)
 
-pub no_remark_put : (o : List ℕ) (b : Bool) (t : List ℕ) → b ≡ false → o ≡ put o 0 (remark_record (remark_of b t))
+pub no_remark_put : (o : List ℕ) → o ≡ put o 0 (remark_record none)
 unfolding remark_record
-no_remark_put o b t e = rw e (sym (put_none o 0))
+no_remark_put o = sym (put_none o 0)
 
-pub remark_put : (o₀ o₁ o₂ : List ℕ) (b : Bool) (t : List ℕ) → b ≡ true → o₁ ≡ put o₀ 0 (header_bytes 4 (length t)) → o₂ ≡ put o₁ 6 t → o₂ ≡ put o₀ 0 (remark_record (remark_of b t))
+pub remark_put : (o₀ o₁ o₂ t : List ℕ) → o₁ ≡ put o₀ 0 (header_bytes 4 (length t)) → o₂ ≡ put o₁ 6 t → o₂ ≡ put o₀ 0 (remark_record (some t))
 unfolding remark_record record_bytes header_bytes
-remark_put o₀ o₁ o₂ b t e f g = rw e (put_then o₀ o₁ o₂ 0 6 (header_bytes 4 (length t)) t f g refl (omega arith))
+remark_put o₀ o₁ o₂ t f g = put_then o₀ o₁ o₂ 0 6 (header_bytes 4 (length t)) t f g refl (omega arith)
 
 -- ---- the parts of the tape
 

@@ -5,49 +5,41 @@
 ghost use Rattle.std.specs.Prelude.{◌≡◌, true, ◌+◌, ◌*◌, ◌%◌, ◌≤◌, ◌<◌, length, get_or, drop};
 ghost use Rattle.acceptance.specs.Accept.{most_cells};
 ghost use Rattle.definition_tape.specs.Blocks.{stretch, store_blocks};
-ghost use Rattle.definition_tape.specs.Bytes.{bytes2, bytes4, header_bytes, record_bytes, cells_bytes, blocks_bytes, flag, flags_byte, state_bytes, timer_bytes, control_bytes, remark_record, tape_of};
-ghost use Rattle.definition_tape.specs.Writing.{remark_of, remark_fits, refused_writing, writing};
+ghost use Rattle.definition_tape.specs.Bytes.{bytes2, bytes4, header_bytes, record_bytes, cells_bytes, blocks_bytes, flags_byte, state_bytes, timer_bytes, control_bytes, remark_record, tape_of};
+ghost use Rattle.definition_tape.specs.Writing.{remark_lent, remark_fits, written, writing};
+ghost use Rattle.tape_records.specs.Kinds.{kind_number};
 ghost use Rattle.tape_write.specs.Steps.{put, blocks_after, all_zero, stretch_bytes, block_size, written_as};
 
-use definition_tape::{MOST_BYTES, Written};
-use machine::{Control, Record, Refusal, Timer, Verdict};
+use definition_tape::MOST_BYTES;
+use machine::{Control, Record, Refusal, Timer};
+use tape_records::RecordKind;
 
 // How many cells are tested for zero together; such a part of the store begins at a multiple of it.
 const PART: usize = 256;
 
 // ---- numbers, little-endian
 
-fn low(n: u32) -> u8
-    ensures { result ≡ n % 256 }
-{
-    (n % 256) as u8
-}
-
-fn put_pair(out: &mut [u8], at: usize, n: u32)
+fn put_pair(out: &mut [u8], at: usize, n: u16)
     requires { at + 2 ≤ length out.old }
     ensures { out.new ≡ put out.old at (bytes2 n) }
 {
-    out[at] = low(n);
-    out[at + 1] = low(n / 256);
+    out[at..at + 2].copy_from_slice(&n.to_le_bytes());
 }
 
 fn put_number(out: &mut [u8], at: usize, n: u32)
     requires { at + 4 ≤ length out.old }
     ensures { out.new ≡ put out.old at (bytes4 n) }
 {
-    out[at] = low(n);
-    out[at + 1] = low(n / 256);
-    out[at + 2] = low(n / 65536);
-    out[at + 3] = low(n / 16777216);
+    out[at..at + 4].copy_from_slice(&n.to_le_bytes());
 }
 
-// A record's header: the kind k and the payload's length l.
-fn put_header(out: &mut [u8], at: usize, k: u32, l: u32)
+// A record's header: its kind and the payload's length l.
+fn put_header(out: &mut [u8], at: usize, kind: RecordKind, l: u32)
     requires { at + 6 ≤ length out.old }
-    ensures { out.new ≡ put out.old at (header_bytes k l) }
+    ensures { out.new ≡ put out.old at (header_bytes (kind_number kind) l) }
 {
     put_number(out, at, l);
-    put_pair(out, at + 4, k);
+    put_pair(out, at + 4, kind.number() as u16);
 }
 
 // ---- blocks
@@ -56,10 +48,8 @@ fn put_cells(out: &mut [u8], at: usize, cells: &[u32])
     requires { at + 4 * length cells.now ≤ length out.old }
     ensures { out.new ≡ put out.old at (cells_bytes cells.now) }
 {
-    let mut i: usize = 0;
-    while i < cells.len() {
-        put_number(out, at + 4 * i, cells[i]);
-        i += 1;
+    for (i, cell) in cells.iter().enumerate() {
+        put_number(out, at + 4 * i, *cell);
     }
 }
 
@@ -75,7 +65,7 @@ fn put_stretch(out: &mut [u8], at: usize, first: u32, cells: &[u32])
     requires { (length cells.now ≤ most_cells) × (at + block_size (length cells.now) ≤ length out.old) }
     ensures { out.new ≡ put out.old at (stretch_bytes first cells.now) }
 {
-    put_header(out, at, 1, (4 + 4 * cells.len()) as u32);
+    put_header(out, at, RecordKind::Block, (4 + 4 * cells.len()) as u32);
     put_number(out, at + 6, first);
     put_cells(out, at + 10, cells);
 }
@@ -102,8 +92,8 @@ fn all_zero(cells: &[u32]) -> bool
     ensures { result ≡ all_zero cells.now }
 {
     let mut zero = true;
-    for i in 0..cells.len() {
-        if cells[i] != 0 {
+    for cell in cells {
+        if *cell != 0 {
             zero = false;
         }
     }
@@ -116,13 +106,7 @@ fn zero_cells(store: &[u32], i: usize) -> usize
     ensures blocks { blocks_after store.now (i + result) ≡ blocks_after store.now i }
     ensures bound { (0 < result) × (i + result ≤ length store.now) }
 {
-    if i % PART != 0 {
-        return 1;
-    }
-    if store.len() - i < PART {
-        return 1;
-    }
-    if all_zero(&store[i..i + PART]) {
+    if i % PART == 0 && PART <= store.len() - i && all_zero(&store[i..i + PART]) {
         PART
     } else {
         1
@@ -173,17 +157,10 @@ fn put_blocks(out: &mut [u8], from: usize, to: usize, store: &[u32])
 
 // ---- the control record
 
-fn flag_value(b: bool, v: u8) -> u8
-    ensures value { result ≡ flag b v }
-    ensures bound { result ≤ v }
-{
-    if b { v } else { 0 }
-}
-
 fn flags_byte(c: Control) -> u8
     ensures { result ≡ flags_byte c }
 {
-    flag_value(c.monitor, 1) + flag_value(c.enabled, 2) + flag_value(c.reset, 4)
+    u8::from(c.monitor) + 2 * u8::from(c.enabled) + 4 * u8::from(c.reset)
 }
 
 // PR, EX, flags, a zero byte.
@@ -191,8 +168,8 @@ fn put_state(out: &mut [u8], at: usize, c: Control)
     requires { at + 4 ≤ length out.old }
     ensures { out.new ≡ put out.old at (state_bytes c) }
 {
-    out[at] = low(c.pr);
-    out[at + 1] = low(c.ex);
+    out[at] = (c.pr % 256) as u8;
+    out[at + 1] = (c.ex % 256) as u8;
     out[at + 2] = flags_byte(c);
     out[at + 3] = 0;
 }
@@ -213,7 +190,7 @@ fn put_control(out: &mut [u8], at: usize, r: Record)
     ensures { out.new ≡ put out.old at (record_bytes 2 (control_bytes r)) }
 {
     let c = r.registers;
-    put_header(out, at, 2, 33);
+    put_header(out, at, RecordKind::Control, 33);
     put_number(out, at + 6, c.ic);
     put_number(out, at + 10, c.ir);
     put_number(out, at + 14, c.im);
@@ -228,104 +205,100 @@ fn put_text(out: &mut [u8], at: usize, text: &[u8])
     requires { at + length text.now ≤ length out.old }
     ensures { out.new ≡ put out.old at text.now }
 {
-    let mut i: usize = 0;
-    while i < text.len() {
-        out[at + i] = text[i];
-        i += 1;
+    out[at..at + text.len()].copy_from_slice(text);
+}
+
+#[tactic(auto, unfolding(definition_tape::specs::Writing::remark_fits))]
+fn remark_fits(remark: Option<&[u8]>) -> bool
+    ensures { result ≡ remark_fits (remark_lent remark.entry) }
+{
+    match remark {
+        Some(text) => text.len() <= 255,
+        None => true,
     }
 }
 
-fn remark_fits(given: bool, text: &[u8]) -> bool
-    ensures { result ≡ remark_fits (remark_of given text.now) }
+#[tactic(auto, using(definition_tape::proofs::Bytes::length_record), unfolding(definition_tape::specs::Writing::remark_fits, definition_tape::specs::Bytes::remark_record))]
+fn remark_size(remark: Option<&[u8]>) -> usize
+    requires { remark_fits (remark_lent remark) ≡ true }
+    ensures { result ≡ length (remark_record (remark_lent remark.entry)) }
 {
-    if given {
-        return text.len() <= 255;
+    match remark {
+        Some(text) => 6 + text.len(),
+        None => 0,
     }
-    true
 }
 
-fn remark_size(given: bool, text: &[u8]) -> usize
-    ensures { result ≡ length (remark_record (remark_of given text.now)) }
+#[tactic(auto, using(definition_tape::proofs::Bytes::length_record, crate::proofs::Ways::no_remark_put, crate::proofs::Ways::remark_put), unfolding(definition_tape::specs::Writing::remark_fits, definition_tape::specs::Bytes::remark_record))]
+fn put_remark(out: &mut [u8], remark: Option<&[u8]>)
+    requires { (remark_fits (remark_lent remark) ≡ true) × (length (remark_record (remark_lent remark)) ≤ length out.old) }
+    ensures { out.new ≡ put out.old 0 (remark_record (remark_lent remark.entry)) }
 {
-    if given {
-        return 6 + text.len();
+    if let Some(text) = remark {
+        put_header(out, 0, RecordKind::Remark, text.len() as u32);
+        put_text(out, 6, text);
     }
-    0
-}
-
-fn put_remark(out: &mut [u8], given: bool, text: &[u8])
-    requires { (remark_fits (remark_of given text.now) ≡ true) × (length (remark_record (remark_of given text.now)) ≤ length out.old) }
-    ensures { out.new ≡ put out.old 0 (remark_record (remark_of given text.now)) }
-{
-    if !given {
-        return;
-    }
-    put_header(out, 0, 4, text.len() as u32);
-    put_text(out, 6, text);
 }
 
 // ---- the tape
 
-fn tape_length(store: &[u32], r: Record, given: bool, text: &[u8]) -> usize
-    requires { (length store.now ≤ most_cells) × (remark_fits (remark_of given text.now) ≡ true) }
-    ensures { result ≡ length (tape_of store.now r (remark_of given text.now)) }
+fn tape_length(store: &[u32], r: Record, remark: Option<&[u8]>) -> usize
+    requires { (length store.now ≤ most_cells) × (remark_fits (remark_lent remark) ≡ true) }
+    ensures { result ≡ length (tape_of store.now r (remark_lent remark.entry)) }
 {
     // 39 bytes of control record, 6 of end
-    remark_size(given, text) + blocks_length(store) + 45
+    remark_size(remark) + blocks_length(store) + 45
 }
 
 // The tape, of n bytes.
-fn put_tape(out: &mut [u8], n: usize, store: &[u32], r: Record, given: bool, text: &[u8])
-    requires { (length store.now ≤ most_cells) × (remark_fits (remark_of given text.now) ≡ true) × (n ≡ length (tape_of store.now r (remark_of given text.now))) × (n ≤ length out.old) }
-    ensures { out.new ≡ put out.old 0 (tape_of store.now r (remark_of given text.now)) }
+fn put_tape(out: &mut [u8], n: usize, store: &[u32], r: Record, remark: Option<&[u8]>)
+    requires { (length store.now ≤ most_cells) × (remark_fits (remark_lent remark) ≡ true) × (n ≡ length (tape_of store.now r (remark_lent remark))) × (n ≤ length out.old) }
+    ensures { out.new ≡ put out.old 0 (tape_of store.now r (remark_lent remark.entry)) }
 {
-    put_remark(out, given, text);
-    let at = remark_size(given, text);
+    put_remark(out, remark);
+    let at = remark_size(remark);
     let end = n - 45;
     put_blocks(out, at, end, store);
     put_control(out, end, r);
-    put_header(out, end + 39, 3, 0);
+    put_header(out, end + 39, RecordKind::End, 0);
 }
 
-fn refused(q: Refusal) -> Written
-    ensures { result ≡ refused_writing q }
-{
-    Written {
-        length: 0,
-        verdict: Verdict::Rejected(q),
-    }
-}
-
-fn write_machine(store: &[u32], r: Record, given: bool, text: &[u8], out: &mut [u8]) -> Written
+#[tactic(auto, using(crate::proofs::Puts::put_first), unfolding(crate::specs::Steps::written_as, definition_tape::specs::Writing::judge_parts, definition_tape::specs::Writing::judge_size))]
+fn write_machine(
+    store: &[u32],
+    r: Record,
+    remark: Option<&[u8]>,
+    out: &mut [u8],
+) -> Result<usize, Refusal>
     requires { length store.now ≤ most_cells }
-    ensures answer { result ≡ (written_as store.now r (remark_of given text.now) out.old).answer }
-    ensures bytes { out.new ≡ (written_as store.now r (remark_of given text.now) out.old).bytes }
+    ensures answer { written result ≡ (written_as store.now r (remark_lent remark.entry) out.old).answer }
+    ensures bytes { out.new ≡ (written_as store.now r (remark_lent remark.entry) out.old).bytes }
 {
-    if !remark_fits(given, text) {
-        return refused(Refusal::RemarkLength);
+    if !remark_fits(remark) {
+        return Err(Refusal::RemarkLength);
     }
-    let n = tape_length(store, r, given, text);
+    let n = tape_length(store, r, remark);
     if n > MOST_BYTES {
-        return refused(Refusal::WrittenLength);
+        return Err(Refusal::WrittenLength);
     }
     if n > out.len() {
-        return refused(Refusal::BufferLength);
+        return Err(Refusal::BufferLength);
     }
-    put_tape(out, n, store, r, given, text);
-    Written {
-        length: n,
-        verdict: Verdict::Accepted,
-    }
+    put_tape(out, n, store, r, remark);
+    Ok(n)
 }
 
-// Writes the tape of a machine, with the remark `text` where one is given. On a refusal nothing changes.
-pub fn write(store: &[u32], control: Record, given: bool, text: &[u8], out: &mut [u8]) -> Written
-    ensures answer { result ≡ (writing store.now control (remark_of given text.now) out.old).answer }
-    ensures bytes { out.new ≡ (writing store.now control (remark_of given text.now) out.old).bytes }
+// Writes the tape of a machine, with its remark. On a refusal nothing changes.
+#[tactic(auto, unfolding(crate::specs::Steps::written_as, definition_tape::specs::Writing::judge_writing, definition_tape::specs::Writing::writing))]
+pub fn write(
+    store: &[u32],
+    control: Record,
+    remark: Option<&[u8]>,
+    out: &mut [u8],
+) -> Result<usize, Refusal>
+    ensures answer { written result ≡ (writing store.now control (remark_lent remark.entry) out.old).answer }
+    ensures bytes { out.new ≡ (writing store.now control (remark_lent remark.entry) out.old).bytes }
 {
-    let v = acceptance::judge_machine(store, control);
-    match v {
-        Verdict::Accepted => write_machine(store, control, given, text, out),
-        Verdict::Rejected(q) => refused(q),
-    }
+    acceptance::judge_machine(store, control)?;
+    write_machine(store, control, remark, out)
 }

@@ -1,5 +1,5 @@
--- The row of a timer. Assumes nothing.
-use Rattle.std.proofs.Common.{◌≡◌, ℕ, ◌+◌, ◌-◌, ◌*◌, ◌%◌, ◌^◌, ◌<◌, ◌≤◌, min, Bool, true, false, cond, eqb, leb, List, [], ◌∷◌, length, get_or, set, sym, refl, ◌∙◌, add_assoc, mod-eq_of_lt, arith, eq-eqb, ne_eqb, le-leb}
+-- The clock of a run. Assumes nothing.
+use Rattle.std.proofs.Common.{◌≡◌, ℕ, ◌+◌, ◌-◌, ◌*◌, ◌%◌, ◌^◌, ◌<◌, ◌≤◌, min, Bool, true, false, cond, eqb, leb, sym, refl, ◌∙◌, add_assoc, mod-eq_of_lt, arith, eq-eqb, ne_eqb, le-leb}
 use native.Mathlib.Nat.{mod-eq-sub-mod, mod-add-mod}
 use native.Mathlib.Decide.{dec_le}
 use lib.Pow.{pow-lt}
@@ -9,7 +9,7 @@ use Rattle.machine.specs.declared.Timer.{Timer}
 use Rattle.acceptance.specs.Accept.{timer_fits}
 use Rattle.acceptance.proofs.Tests.{running}
 use Rattle.definition_times.specs.Timer.{elapsed_after, phase_after, timer_after, interval_ends, line_raised}
-use Rattle.timer_row.specs.Row.{Clock, clock_at, timer_at, passing, with_passed, limit_of, IsClock, BelowLimit}
+use Rattle.timer_row.specs.Row.{Clock, passing, limit_of}
 
 -- ---- the phase
 
@@ -87,26 +87,7 @@ pub none_raised : (n : ℕ) (r : Timer) (c : Control) → n < limit_of r → c �
 unfolding line_raised
 none_raised n r c l = rw (none_ends n r l)
 
--- ---- the row
-
-six : (P : List ℕ → Type 0) → ((a b c d e f : ℕ) → P (a ∷ b ∷ c ∷ d ∷ e ∷ f ∷ [])) → (t : List ℕ) → length t ≡ 6 → P t
-six P p (a ∷ b ∷ c ∷ d ∷ e ∷ f ∷ []) l = p a b c d e f
-six P p [] l = absurd (omega (arith, l))
-six P p (a ∷ []) l = absurd (omega (arith, l))
-six P p (a ∷ b ∷ []) l = absurd (omega (arith, l))
-six P p (a ∷ b ∷ c ∷ []) l = absurd (omega (arith, l))
-six P p (a ∷ b ∷ c ∷ d ∷ []) l = absurd (omega (arith, l))
-six P p (a ∷ b ∷ c ∷ d ∷ e ∷ []) l = absurd (omega (arith, l))
-six P p (a ∷ b ∷ c ∷ d ∷ e ∷ f ∷ g ∷ r) l = absurd (omega (arith, l))
-
-pub set_passed : (t : List ℕ) (v : ℕ) → IsClock t → clock_at (set t 0 v) ≡ with_passed v (clock_at t)
-unfolding clock_at with_passed
-set_passed t v k = six (λ t. clock_at (set t 0 v) ≡ with_passed v (clock_at t)) (λ a b c d e f. refl) t k.size
-
-pub set_clock : (t : List ℕ) (v : ℕ) → IsClock t → IsClock (set t 0 v)
-unfolding clock_at
-set_clock t v k =
-    six (λ t. IsClock t → IsClock (set t 0 v)) (λ a b c d e f k. record { size = refl; line = k.line; limit = k.limit; fits = k.fits }) t k.size k
+-- ---- the clock
 
 -- where a timer stands in the row no time has passed
 same_phase : (b : Bool) (p n : ℕ) → (b ≡ false → p < n) → cond b p ((p + 0) % n) ≡ p
@@ -119,42 +100,11 @@ nothing_passed r l f =
     let e : (r.elapsed + 0) % 2 ^ 32 ≡ r.elapsed = omega arith in
     rw (e, same_phase (eqb r.period 0) r.phase r.period (λ (z : eqb r.period 0 ≡ false). (running r f (eqb-false _ _ z)).phase))
 
-pub set_passing : (t : List ℕ) (n : ℕ) → IsClock t → clock_at (set t 0 ((get_or t 0 0 + n) % 2 ^ 32)) ≡ passing n (clock_at t)
-unfolding clock_at passing
-set_passing t n k = six (λ t. clock_at (set t 0 ((get_or t 0 0 + n) % 2 ^ 32)) ≡ passing n (clock_at t)) (λ a b c d e f. refl) t k.size
-
-pub set_entered : (t : List ℕ) (n : ℕ) → IsClock t → clock_at (set t 0 ((n + 75) % 2 ^ 32)) ≡ passing 75 (with_passed n (clock_at t))
-unfolding clock_at passing with_passed
-set_entered t n k = six (λ t. clock_at (set t 0 ((n + 75) % 2 ^ 32)) ≡ passing 75 (with_passed n (clock_at t))) (λ a b c d e f. refl) t k.size
-
-pub held_timer : (t : List ℕ) (l : ℕ) → IsClock t → l ≡ get_or t 5 0 % 256
-    → record { elapsed = get_or t 2 0; period = get_or t 3 0; phase = get_or t 4 0; line = l } ≡ (clock_at t).timer
-unfolding clock_at
-held_timer t l k e = rw (e, mod-eq_of_lt k.line)
-
 pub bit_shifted : (p : ℕ) → 1 * 2 ^ (23 - p) % 2 ^ 32 ≡ 2 ^ (23 - p)
 bit_shifted p =
     let l : 2 ^ (23 - p) < 2 ^ 32 = pow-lt {i = 23 - p} {j = 32} (omega arith) in
     let e : 1 * 2 ^ (23 - p) ≡ 2 ^ (23 - p) = omega arith in
     rw e (mod-eq_of_lt l)
-
--- the row of a timer stands for it
-pub row_timer : (r : Timer) (n l : ℕ) → r.elapsed < 2 ^ 32 → timer_fits r ≡ true → l ≡ r.line
-    → timer_at (0 ∷ n ∷ r.elapsed ∷ r.period ∷ r.phase ∷ l ∷ []) ≡ r
-unfolding clock_at
-row_timer r n l h f e = rw e (nothing_passed r h f)
-
-pub row_clock : (r : Timer) (n l : ℕ) → timer_fits r ≡ true → l ≡ r.line → l < 256 → n ≡ limit_of r → 0 < n
-    → IsClock (0 ∷ n ∷ r.elapsed ∷ r.period ∷ r.phase ∷ l ∷ []) × BelowLimit (0 ∷ n ∷ r.elapsed ∷ r.period ∷ r.phase ∷ l ∷ [])
-unfolding clock_at
-row_clock r n l f e w k z = rw e (record { size = refl; line = rw (← e) w; limit = k; fits = f }, z)
-
-pub below_passed : (t : List ℕ) → IsClock t → get_or t 0 0 < get_or t 1 0 → (clock_at t).passed < limit_of (clock_at t).timer
-unfolding clock_at
-below_passed t k l = let e : get_or t 1 0 ≡ limit_of (record { elapsed = get_or t 2 0; period = get_or t 3 0; phase = get_or t 4 0; line = get_or t 5 0 }) = k.limit in omega arith
-
-pub in_time : (t : List ℕ) → IsClock t → (clock_at t).passed < limit_of (clock_at t).timer → BelowLimit t
-in_time t k l = rw k.limit l
 
 -- ---- times one after the other
 

@@ -1,37 +1,26 @@
--- The timer during a run as a row of numbers: the time that passed since the timer was last worked out, how much may pass before it is worked out
--- again, then elapsed time, period, phase and line.
+-- The timer during a run: the time that passed since the timer was last worked out, and the timer as it stood then.
 -- Assumes nothing.
-use Rattle.std.specs.Prelude.{◌≡◌, ℕ, ◌+◌, ◌-◌, ◌%◌, ◌^◌, ◌<◌, min, true, cond, List, length, ◌==◌, slice_index, slice_index_or}
+use Rattle.std.specs.Prelude.{ℕ, ◌+◌, ◌-◌, ◌%◌, ◌^◌, ◌<◌, min, cond, ◌==◌}
 use Rattle.machine.specs.declared.Timer.{Timer}
-use Rattle.acceptance.specs.Accept.{timer_fits}
 use Rattle.definition_times.specs.Timer.{timer_after}
 use Rattle.control_row.specs.declared.End.{End}
 use Rattle.control_row.specs.declared.End.TheVariants.{Done, Reset, Faulted}
 
 pub record Clock : Type 0 where
   pub passed : ℕ
-  pub limit : ℕ
   pub timer : Timer
 
-unfoldable pub clock_at : List ℕ → Clock
-clock_at t =
-    record {
-      passed = slice_index t 0;
-      limit = slice_index t 1;
-      timer = record { elapsed = slice_index t 2; period = slice_index t 3; phase = slice_index t 4; line = slice_index t 5 };
-    }
-
 -- the timer that the row stands for
-abbrev pub timer_at : List ℕ → Timer
-timer_at t = timer_after (clock_at t).passed (clock_at t).timer
+abbrev pub timer_at : Clock → Timer
+timer_at t = timer_after t.passed t.timer
 
 -- the time n passes
 unfoldable pub passing : ℕ → Clock → Clock
-passing n c = record { passed = (c.passed + n) % 2 ^ 32; limit = c.limit; timer = c.timer }
+passing n c = record { passed = (c.passed + n) % 2 ^ 32; timer = c.timer }
 
 -- the clock with the time n passed
 unfoldable pub with_passed : ℕ → Clock → Clock
-with_passed n c = record { passed = n; limit = c.limit; timer = c.timer }
+with_passed n c = record { passed = n; timer = c.timer }
 
 -- what counts of the clock after an operation: where it ended in a fault, the time that passed does not
 abbrev pub clock_after : End → Clock → Clock
@@ -43,13 +32,6 @@ clock_after Faulted c = with_passed 0 c
 unfoldable pub limit_of : Timer → ℕ
 limit_of r = cond (r.period == 0) (2 ^ 31) (min (r.period - r.phase) (2 ^ 31))
 
--- what is kept of every row
-pub record IsClock (t : List ℕ) : Type 0 where
-  pub size : length t ≡ 6
-  pub line : slice_index_or t 5 0 < 256
-  pub limit : (clock_at t).limit ≡ limit_of (clock_at t).timer
-  pub fits : timer_fits (clock_at t).timer ≡ true
-
 -- where a cycle begins
-abbrev pub BelowLimit : List ℕ → Type 0
-BelowLimit t = (clock_at t).passed < (clock_at t).limit
+abbrev pub BelowLimit : Clock → Type 0
+BelowLimit t = t.passed < limit_of t.timer

@@ -1,17 +1,35 @@
 // The timer during a run, in one lent row: a cycle adds its time in one place, and at its end one comparison tells whether elapsed time and phase have
-// to be worked out (docs/PERFORMANCE.md). Only this file knows the places.
+// to be worked out (docs/PERFORMANCE.md).
 #![tactic(auto)]
 
 ghost use Rattle.std.specs.Prelude.{◌≡◌, ◌%◌, ◌<◌, true};
 ghost use Rattle.acceptance.specs.Accept.{timer_fits};
 ghost use Rattle.definition_times.specs.Timer.{timer_after, interval_ends, line_bit, line_raised};
-ghost use Rattle.control_row.specs.Row.{control_at, IsRow};
-ghost use Rattle.timer_row.specs.Row.{clock_at, timer_at, passing, with_passed, limit_of, IsClock, BelowLimit};
+ghost use Rattle.timer_row.specs.Row.{timer_at, passing, with_passed, limit_of, BelowLimit};
 
 use control_row::Row;
 use machine::Timer;
+use std::marker::Model;
 
-pub type Clock = [u32; 6];
+// The time that passed since the timer was last worked out, and how much may pass before it is worked out again.
+#[derive(Drop)]
+pub struct Clock {
+    passed: u32,
+    limit: u32,
+    timer: Timer,
+}
+
+impl Model for Clock {
+    ghost use Rattle.std.specs.Prelude.{◌≡◌, true};
+    ghost use Rattle.acceptance.specs.Accept.{timer_fits};
+    ghost use Rattle.timer_row.specs.Row.{Clock, limit_of};
+
+    ghost Value = { Clock };
+
+    ghost view = { λ t. record { passed = t.passed; timer = t.timer } };
+
+    ghost invariant = { λ t. (t.limit ≡ limit_of t.timer) × (timer_fits t.timer ≡ true) };
+}
 
 // The time of an entry.
 pub const ENTRY: u32 = 75;
@@ -31,69 +49,6 @@ fn limit(r: Timer) -> u32
     if n < LONGEST { n } else { LONGEST }
 }
 
-fn wide(b: u8) -> u32
-    ensures value { result ≡ b }
-    ensures bound { result < 256 }
-{
-    b as u32
-}
-
-// The row of a timer.
-pub fn clock_of(r: Timer) -> Clock
-    requires { timer_fits r ≡ true }
-    ensures value { timer_at result ≡ r }
-    ensures kept { IsClock result × BelowLimit result }
-{
-    let n = limit(r);
-    let line = wide(r.line);
-    [0, n, r.elapsed, r.period, r.phase, line]
-}
-
-// The time that passed.
-pub fn passed(t: &Clock) -> u32
-    ensures { result ≡ (clock_at t.now).passed }
-{
-    t[0]
-}
-
-// The time n passes.
-pub fn advance(t: &mut Clock, n: u32)
-    requires { IsClock t.old }
-    ensures value { clock_at t.new ≡ passing n (clock_at t.old) }
-    ensures kept { IsClock t.new }
-{
-    t[0] = std::num::wrapping_add_u32(t[0], n);
-}
-
-// An entry is made in a cycle that began when the time n had passed: it takes its own time alone.
-pub fn enter(t: &mut Clock, n: u32)
-    requires { IsClock t.old }
-    ensures value { clock_at t.new ≡ passing 75 (with_passed n (clock_at t.old)) }
-    ensures kept { IsClock t.new }
-{
-    t[0] = std::num::wrapping_add_u32(n, ENTRY);
-}
-
-fn low(n: u32) -> u8
-    ensures { result ≡ n % 256 }
-{
-    (n % 256) as u8
-}
-
-// The timer as it last stood in the row.
-fn held(t: &Clock) -> Timer
-    requires { IsClock t.now }
-    ensures { result ≡ (clock_at t.now).timer }
-{
-    let line = low(t[5]);
-    Timer {
-        elapsed: t[2],
-        period: t[3],
-        phase: t[4],
-        line: line,
-    }
-}
-
 fn phase_after(n: u32, r: Timer) -> u32
     requires { timer_fits r ≡ true }
     ensures { result ≡ (timer_after n r).phase }
@@ -108,27 +63,16 @@ fn phase_after(n: u32, r: Timer) -> u32
     (n - left) % r.period
 }
 
+#[tactic(auto, unfolding(definition_times::specs::Timer::timer_after, definition_times::specs::Timer::elapsed_after))]
 fn timer_after(n: u32, r: Timer) -> Timer
     requires { timer_fits r ≡ true }
     ensures { result ≡ timer_after n r }
 {
-    let elapsed = std::num::wrapping_add_u32(r.elapsed, n);
-    let phase = phase_after(n, r);
     Timer {
-        elapsed: elapsed,
-        period: r.period,
-        phase: phase,
-        line: r.line,
+        elapsed: r.elapsed.wrapping_add(n),
+        phase: phase_after(n, r),
+        ..r
     }
-}
-
-pub fn timer_of(t: &Clock) -> Timer
-    requires { IsClock t.now }
-    ensures { result ≡ timer_at t.now }
-{
-    let n = passed(t);
-    let r = held(t);
-    timer_after(n, r)
 }
 
 fn interval_ends(n: u32, r: Timer) -> bool
@@ -149,39 +93,78 @@ fn line_bit(line: u8) -> u32
 }
 
 // The line is raised where an interval ends.
+#[tactic(auto, unfolding(definition_times::specs::Timer::line_raised))]
 fn raise_line(k: &mut Row, n: u32, r: Timer)
-    requires { IsRow k.old × (timer_fits r ≡ true) }
-    ensures value { control_at k.new ≡ line_raised n r (control_at k.old) }
-    ensures kept { IsRow k.new }
+    requires { timer_fits r ≡ true }
+    ensures { k.new ≡ line_raised n r k.old }
 {
     if interval_ends(n, r) {
-        let b = line_bit(r.line);
-        control_row::raise(k, b);
+        k.raise(line_bit(r.line));
     }
 }
 
-// Elapsed time and phase are worked out, and the line is raised where an interval ends.
-fn update(k: &mut Row, t: &mut Clock)
-    requires { IsRow k.old × IsClock t.old }
-    ensures control { control_at k.new ≡ line_raised (clock_at t.old).passed (clock_at t.old).timer (control_at k.old) }
-    ensures timer { timer_at t.new ≡ timer_at t.old }
-    ensures kept { IsRow k.new × IsClock t.new × BelowLimit t.new }
-{
-    let n = passed(t);
-    let r = held(t);
-    raise_line(k, n, r);
-    let x = timer_after(n, r);
-    *t = clock_of(x);
-}
+impl Clock {
+    // The clock of a timer.
+    pub fn of(r: Timer) -> Clock
+        requires { timer_fits r ≡ true }
+        ensures value { timer_at result ≡ r }
+        ensures below { BelowLimit result }
+    {
+        Clock {
+            passed: 0,
+            limit: limit(r),
+            timer: r,
+        }
+    }
 
-// The end of a cycle.
-pub fn end_cycle(k: &mut Row, t: &mut Clock)
-    requires { IsRow k.old × IsClock t.old }
-    ensures control { control_at k.new ≡ line_raised (clock_at t.old).passed (clock_at t.old).timer (control_at k.old) }
-    ensures timer { timer_at t.new ≡ timer_at t.old }
-    ensures kept { IsRow k.new × IsClock t.new × BelowLimit t.new }
-{
-    if t[0] >= t[1] {
-        update(k, t);
+    // The time that passed.
+    pub fn passed(&self) -> u32
+        ensures { result ≡ self.now.passed }
+    {
+        self.passed
+    }
+
+    // The time n passes.
+    #[tactic(auto, unfolding(crate::specs::Row::passing))]
+    pub fn advance(&mut self, n: u32)
+        ensures { self.new ≡ passing n self.old }
+    {
+        self.passed = self.passed.wrapping_add(n);
+    }
+
+    // An entry is made in a cycle that began when the time n had passed: it takes its own time alone.
+    #[tactic(auto, unfolding(crate::specs::Row::passing, crate::specs::Row::with_passed))]
+    pub fn enter(&mut self, n: u32)
+        ensures { self.new ≡ passing 75 (with_passed n self.old) }
+    {
+        self.passed = n.wrapping_add(ENTRY);
+    }
+
+    // The timer as it stands now.
+    pub fn timer(&self) -> Timer
+        ensures { result ≡ timer_at self.now }
+    {
+        timer_after(self.passed, self.timer)
+    }
+
+    // Elapsed time and phase are worked out, and the line is raised where an interval ends.
+    fn update(&mut self, k: &mut Row)
+        ensures control { k.new ≡ line_raised self.old.passed self.old.timer k.old }
+        ensures timer { timer_at self.new ≡ timer_at self.old }
+        ensures below { BelowLimit self.new }
+    {
+        raise_line(k, self.passed, self.timer);
+        *self = Clock::of(self.timer());
+    }
+
+    // The end of a cycle.
+    pub fn end_cycle(&mut self, k: &mut Row)
+        ensures control { k.new ≡ line_raised self.old.passed self.old.timer k.old }
+        ensures timer { timer_at self.new ≡ timer_at self.old }
+        ensures below { BelowLimit self.new }
+    {
+        if self.passed >= self.limit {
+            self.update(k);
+        }
     }
 }

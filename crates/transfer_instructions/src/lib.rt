@@ -1,8 +1,7 @@
 // Address handling, register transfer and byte transfer (14.8): each function does the micro-operations of its meaning, in their order.
-#![tactic(auto)]
+#![tactic(auto, unfolding(definition_instructions::specs::Codes::execute, definition_instructions::specs::Meaning::meaning, definition_instructions::specs::MicroOps::execute_operation, definition_instructions::specs::MicroOps::micro_step, definition_instructions::specs::MicroOps::micro_steps, definition_instructions::specs::MicroOps::monitor_step, definition_instructions::specs::MicroOps::monitor_steps))]
 
 ghost use Rattle.std.specs.Prelude.{◌≡◌};
-ghost use Rattle.control_row.specs.Row.{control_at, IsRow};
 ghost use Rattle.control_row.specs.Endings.{ending, ending_of};
 ghost use Rattle.definition_instructions.specs.Codes.{execute};
 ghost use Rattle.definition_instructions.specs.Meaning.{AM, AL, HL, HS, RL, RS, RX, DL, DS, BZ, BL};
@@ -11,19 +10,15 @@ use control_row::{End, Row};
 
 // Modify Next Address.
 pub fn am(s: &mut [u32], k: &mut Row, w: u32, sb: u32) -> End
-    requires { IsRow k.old }
-    ensures value { ending_of result s.new (control_at k.new) ≡ ending (execute AM w sb s.old (control_at k.old)) }
-    ensures kept { IsRow k.new }
+    ensures { ending_of result s.new k.new ≡ ending (execute AM w sb s.old k.old) }
 {
-    control_row::set_pending(k, sb);
+    k.set_pending(sb);
     End::Done
 }
 
 // Load Address.
 pub fn al(s: &mut [u32], k: &mut Row, w: u32, sb: u32) -> End
-    requires { IsRow k.old }
-    ensures value { ending_of result s.new (control_at k.new) ≡ ending (execute AL w sb s.old (control_at k.old)) }
-    ensures kept { IsRow k.new }
+    ensures { ending_of result s.new k.new ≡ ending (execute AL w sb s.old k.old) }
 {
     machine::put_word(s, w, sb);
     End::Done
@@ -31,9 +26,7 @@ pub fn al(s: &mut [u32], k: &mut Row, w: u32, sb: u32) -> End
 
 // Load Half Register.
 pub fn hl(s: &mut [u32], k: &mut Row, w: u32, sb: u32) -> End
-    requires { IsRow k.old }
-    ensures value { ending_of result s.new (control_at k.new) ≡ ending (execute HL w sb s.old (control_at k.old)) }
-    ensures kept { IsRow k.new }
+    ensures { ending_of result s.new k.new ≡ ending (execute HL w sb s.old k.old) }
 {
     if machine::is_absent(s, sb) {
         return End::Faulted;
@@ -46,14 +39,12 @@ pub fn hl(s: &mut [u32], k: &mut Row, w: u32, sb: u32) -> End
 
 // Store Half Register.
 pub fn hs(s: &mut [u32], k: &mut Row, w: u32, sb: u32) -> End
-    requires { IsRow k.old }
-    ensures value { ending_of result s.new (control_at k.new) ≡ ending (execute HS w sb s.old (control_at k.old)) }
-    ensures kept { IsRow k.new }
+    ensures { ending_of result s.new k.new ≡ ending (execute HS w sb s.old k.old) }
 {
     if machine::is_absent(s, sb) {
         return End::Faulted;
     }
-    if control_row::is_violation(s, k, sb / 2) {
+    if k.is_violation(s, sb / 2) {
         return End::Faulted;
     }
     let x = machine::word_at(s, w);
@@ -63,9 +54,7 @@ pub fn hs(s: &mut [u32], k: &mut Row, w: u32, sb: u32) -> End
 
 // Load Register.
 pub fn rl(s: &mut [u32], k: &mut Row, w: u32, sb: u32) -> End
-    requires { IsRow k.old }
-    ensures value { ending_of result s.new (control_at k.new) ≡ ending (execute RL w sb s.old (control_at k.old)) }
-    ensures kept { IsRow k.new }
+    ensures { ending_of result s.new k.new ≡ ending (execute RL w sb s.old k.old) }
 {
     if machine::is_absent(s, sb) {
         return End::Faulted;
@@ -77,14 +66,12 @@ pub fn rl(s: &mut [u32], k: &mut Row, w: u32, sb: u32) -> End
 
 // Store Register.
 pub fn rs(s: &mut [u32], k: &mut Row, w: u32, sb: u32) -> End
-    requires { IsRow k.old }
-    ensures value { ending_of result s.new (control_at k.new) ≡ ending (execute RS w sb s.old (control_at k.old)) }
-    ensures kept { IsRow k.new }
+    ensures { ending_of result s.new k.new ≡ ending (execute RS w sb s.old k.old) }
 {
     if machine::is_absent(s, sb) {
         return End::Faulted;
     }
-    if control_row::is_violation(s, k, sb / 2) {
+    if k.is_violation(s, sb / 2) {
         return End::Faulted;
     }
     let x = machine::word_at(s, w);
@@ -94,9 +81,7 @@ pub fn rs(s: &mut [u32], k: &mut Row, w: u32, sb: u32) -> End
 
 // Exchange Register and Store: W is loaded before Test Protection.
 pub fn rx(s: &mut [u32], k: &mut Row, w: u32, sb: u32) -> End
-    requires { IsRow k.old }
-    ensures value { ending_of result s.new (control_at k.new) ≡ ending (execute RX w sb s.old (control_at k.old)) }
-    ensures kept { IsRow k.new }
+    ensures { ending_of result s.new k.new ≡ ending (execute RX w sb s.old k.old) }
 {
     if machine::is_absent(s, sb) {
         return End::Faulted;
@@ -104,7 +89,7 @@ pub fn rx(s: &mut [u32], k: &mut Row, w: u32, sb: u32) -> End
     let x = machine::word_at(s, w);
     let y = machine::word_at(s, sb / 2);
     machine::put_word(s, w, y);
-    if control_row::is_violation(s, k, sb / 2) {
+    if k.is_violation(s, sb / 2) {
         return End::Faulted;
     }
     machine::put_word(s, sb / 2, x);
@@ -113,9 +98,7 @@ pub fn rx(s: &mut [u32], k: &mut Row, w: u32, sb: u32) -> End
 
 // Load Double Register: the first word is read after W was written.
 pub fn dl(s: &mut [u32], k: &mut Row, w: u32, sb: u32) -> End
-    requires { IsRow k.old }
-    ensures value { ending_of result s.new (control_at k.new) ≡ ending (execute DL w sb s.old (control_at k.old)) }
-    ensures kept { IsRow k.new }
+    ensures { ending_of result s.new k.new ≡ ending (execute DL w sb s.old k.old) }
 {
     if machine::is_absent(s, sb) {
         return End::Faulted;
@@ -131,20 +114,18 @@ pub fn dl(s: &mut [u32], k: &mut Row, w: u32, sb: u32) -> End
 
 // Store Double Register: the second word is tested and written, then the first.
 pub fn ds(s: &mut [u32], k: &mut Row, w: u32, sb: u32) -> End
-    requires { IsRow k.old }
-    ensures value { ending_of result s.new (control_at k.new) ≡ ending (execute DS w sb s.old (control_at k.old)) }
-    ensures kept { IsRow k.new }
+    ensures { ending_of result s.new k.new ≡ ending (execute DS w sb s.old k.old) }
 {
     if machine::is_absent(s, sb) {
         return End::Faulted;
     }
-    if control_row::is_violation(s, k, sb / 2) {
+    if k.is_violation(s, sb / 2) {
         return End::Faulted;
     }
     let x = machine::word_at(s, w);
     machine::put_word(s, sb / 2, x);
     let a = machine::first_word(sb);
-    if control_row::is_violation(s, k, a / 2) {
+    if k.is_violation(s, a / 2) {
         return End::Faulted;
     }
     let p = machine::previous_register(w);
@@ -155,9 +136,7 @@ pub fn ds(s: &mut [u32], k: &mut Row, w: u32, sb: u32) -> End
 
 // Load Byte with Zeroes.
 pub fn bz(s: &mut [u32], k: &mut Row, w: u32, sb: u32) -> End
-    requires { IsRow k.old }
-    ensures value { ending_of result s.new (control_at k.new) ≡ ending (execute BZ w sb s.old (control_at k.old)) }
-    ensures kept { IsRow k.new }
+    ensures { ending_of result s.new k.new ≡ ending (execute BZ w sb s.old k.old) }
 {
     if machine::is_absent(s, sb) {
         return End::Faulted;
@@ -169,9 +148,7 @@ pub fn bz(s: &mut [u32], k: &mut Row, w: u32, sb: u32) -> End
 
 // Load Integer Byte.
 pub fn bl(s: &mut [u32], k: &mut Row, w: u32, sb: u32) -> End
-    requires { IsRow k.old }
-    ensures value { ending_of result s.new (control_at k.new) ≡ ending (execute BL w sb s.old (control_at k.old)) }
-    ensures kept { IsRow k.new }
+    ensures { ending_of result s.new k.new ≡ ending (execute BL w sb s.old k.old) }
 {
     if machine::is_absent(s, sb) {
         return End::Faulted;

@@ -13,8 +13,7 @@ use store.Seg.{take-pre, drop-pre}
 use Rattle.machine.specs.declared.Record.{Record}
 use Rattle.machine.specs.Answers.{verdict_number}
 use Rattle.machine.specs.declared.Refusal.TheVariants.{StoreSize, CellValue, ControlField, TimerField, RemarkLength, WrittenLength, BufferLength}
-use Rattle.machine.specs.declared.Verdict.{Verdict}
-use Rattle.machine.specs.declared.Verdict.TheVariants.{Accepted, Rejected}
+use Rattle.machine.specs.Verdicts.{Verdict, Accepted, Rejected}
 use Rattle.acceptance.specs.Accept.{size_fits, cells_fit, control_fits, timer_fits, judge_store, judge_registers, judge_timer, judge_machine}
 use Rattle.definition_tape.specs.Load.{Loaded, tape_cells, judge_then, judge_load, cleared, loading}
 use Rattle.definition_tape.specs.Remark.{judge_reading, remark_span, remark_text}

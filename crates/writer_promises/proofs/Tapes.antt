@@ -11,7 +11,7 @@ use lib.ListN.{length, drop, replicate, length-append}
 use lib.Seq.{append_snoc, take-append_seam, drop-append_seam}
 use lib.Dec.{ltb, eqb}
 use Rattle.machine.specs.declared.Record.{Record}
-use Rattle.machine.specs.declared.Verdict.TheVariants.{Accepted}
+use Rattle.machine.specs.Verdicts.{Accepted}
 use Rattle.acceptance.specs.Accept.{cells_fit, control_fits, timer_fits}
 use Rattle.definition_tape.specs.Layout.{payload_of, records_of, first_of, flags_of, zero_byte, control_of, timer_of, control_record_of}
 use Rattle.tape_promises.specs.Grammar.{Header, BlockPayload, ControlPayload, Records, block_then, remark_then, control_then_end}

@@ -5,7 +5,7 @@ use Rattle.std.proofs.Math.Option.{Option, none, some}
 use Rattle.machine.specs.declared.Record.{Record}
 use Rattle.machine.specs.Answers.{refusal_number}
 use Rattle.machine.specs.declared.Refusal.{Refusal}
-use Rattle.machine.specs.declared.Verdict.TheVariants.{Accepted, Rejected}
+use Rattle.machine.specs.Verdicts.{Accepted, Rejected}
 use Rattle.definition_tape.specs.Layout.{number_at, kind_of, payload_of, records_of, first_cell, block_cells, control_record_of}
 use Rattle.definition_tape.specs.Judge.{judge_tape}
 use Rattle.definition_tape.specs.Load.{loading}

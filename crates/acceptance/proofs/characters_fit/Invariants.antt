@@ -1,12 +1,6 @@
-use Prim.Native.Nat.{◌-◌, ◌≤◌}
-use mathlib.Core.Path.{◌≡◌}
-use mathlib.Core.Bool.{false, cond}
-use lib.ListN.{length, drop}
+use Rattle.std.proofs.Common.{◌≡◌, false, cond, drop}
 use Rattle.acceptance.specs.Accept.{characters_fit}
 use Rattle.acceptance.proofs.characters_fit.Given as goal
 
-abbrev pub invariant-loop-i : goal.invariant-loop-i
-invariant-loop-i l = (l.i ≤ length l.s) × (cond l.fit (characters_fit (drop l.i l.s)) false ≡ characters_fit l.s)
-
-abbrev pub decreases-loop-i : goal.decreases-loop-i
-decreases-loop-i l = length l.s - l.i
+abbrev pub invariant-loop-x : goal.invariant-loop-x
+invariant-loop-x l = cond l.fit (characters_fit (drop l.x-index l.s)) false ≡ characters_fit l.s

@@ -1,42 +1,77 @@
--- The proof of the cycle of calls {primary, product, sum}: each way out and each turn by its law of Ways.
-use Rattle.std.proofs.Common.{◌+◌, arith}
-use Rattle.definition_assembler.specs.Reader.{Nothing, sum_at, product_at, primary_at}
-use Rattle.address_expression.proofs.Ways.{moved_to, placed, sum_goes, sum_ends, sum_wrong, product_times, product_ends, product_wrong, primary_group, primary_number}
+-- The proof of the cycle of calls {primary, product, sum}: each way out and each turn by its law of Front.
+use Rattle.std.proofs.Common.{arith, sym, ◌∙◌}
+use Rattle.definition_assembler.specs.Reader.{Nothing, Times, product_at, primary_at}
+use Rattle.address_expression.proofs.Digits.{cut, not_first, tail_shorter}
+use Rattle.address_expression.proofs.Front.{sum_none, sum_some, product_none, product_some, sum_goes, operator_shorter, product_times, sum_turn, product_turn, primary_number, group_none, group_closed, group_open, shorter}
 use Rattle.address_expression.proofs.+primary_product_sum.Goals as goal
+use Rattle.address_expression.proofs.+primary_product_sum.Goals.{primary-in_default-via-then-text-lt1, primary-in_default-via-else-text-lt1+in_default-1, primary-in_default-rest-via-then-rest-lt1, primary-in_default-rest-via-else-rest-lt1+in_default-1}
 
-pub primary-close-requires : goal.primary-close-requires
-primary-close-requires t c = placed c.args.text.now (sum_at (c.args.at + 1) Nothing) _ c.sum.ensures
+pub primary-returns-in_default : goal.primary-returns-in_default
+primary-returns-in_default t c =
+    c.number.ensures
+    ∙ sym (primary_number c.args.text.now
+    (elim c.in_default.branch [
+      | primary-in_default-via-then-text-lt1 w ↦ not_first c.args.text.now 40 (omega arith) (λ z e. grind arith)
+      | primary-in_default-via-else-text-lt1+in_default-1 w ↦ not_first c.args.text.now 40 (omega arith) (λ z e. grind arith)
+    ]))
 
-pub primary-returns-then-byte_at-eq40 : goal.primary-returns-then-byte_at-eq40
-primary-returns-then-byte_at-eq40 t c = primary_group c.args.text.now c.args.at _ c.byte_at.ensures _ _ c.if-byte_at-eq40.true c.sum.ensures c.close.ensures
+pub primary-returns-in_err-x : goal.primary-returns-in_err-x
+primary-returns-in_err-x t c = rw c.from_residual.ensures (group_none _ _ (cut c.args.text.now 40 (omega arith) (omega arith)) c.in_err-x.ensures)
 
-pub primary-returns-else-byte_at-eq40 : goal.primary-returns-else-byte_at-eq40
-primary-returns-else-byte_at-eq40 t c = primary_number c.args.text.now c.args.at _ c.byte_at.ensures _ c.if-byte_at-eq40.false c.number_at.ensures
+pub primary-returns-in-41 : goal.primary-returns-in-41
+primary-returns-in-41 t c =
+    group_closed _ _ (cut c.args.text.now 40 (omega arith) (omega arith)) _ _ _ _ (cut c.in_ok-x.rest.now 41 (omega arith) (omega arith)) c.in_ok-x.ensures c.enclose.ensures
 
-pub product-returns-else-byte_at-eq42 : goal.product-returns-else-byte_at-eq42
-product-returns-else-byte_at-eq42 t c =
-    product_ends c.args.text.now c.args.at c.loop-x.i _ _ c.loop-x.l _ _ _ c.loop-x.invariant c.primary-p.ensures c.in-Read.is c.combine-s.ensures c.byte_at.ensures c.if-byte_at-eq42.false
+pub primary-returns-in_default-rest : goal.primary-returns-in_default-rest
+primary-returns-in_default-rest t c =
+    group_open _ _ (cut c.args.text.now 40 (omega arith) (omega arith)) _ _ c.in_ok-x.ensures
+    (elim c.in_default-rest.branch [
+      | primary-in_default-rest-via-then-rest-lt1 w ↦ not_first c.in_ok-x.rest.now 41 (omega arith) (λ z e. grind arith)
+      | primary-in_default-rest-via-else-rest-lt1+in_default-1 w ↦ not_first c.in_ok-x.rest.now 41 (omega arith) (λ z e. grind arith)
+    ])
 
-pub product-loop-x-smaller : goal.product-loop-x-smaller
-product-loop-x-smaller t c = let m = moved_to c.args.text.now (primary_at c.loop-x.i) _ _ _ c.primary-p.ensures c.in-Read.is in omega arith
+pub product-returns-in_err-value : goal.product-returns-in_err-value
+product-returns-in_err-value t c = rw c.from_residual.ensures (sym (product_none c.args.text.now Nothing c.in_err-value.ensures))
 
-pub product-loop-x-preserved : goal.product-loop-x-preserved
-product-loop-x-preserved t c =
-    product_times c.args.text.now c.args.at c.loop-x.i _ _ c.loop-x.l _ _ _ c.loop-x.invariant c.primary-p.ensures c.in-Read.is c.combine-s.ensures c.byte_at.ensures c.if-byte_at-eq42.true
+pub product-loop-rest-init : goal.product-loop-rest-init
+product-loop-rest-init t c = record {
+  shorter = shorter c.args.text.now (primary_at 0) _ _ c.in_ok-value.ensures;
+  same = product_some c.args.text.now Nothing _ _ c.in_ok-value.ensures;
+}
 
-pub product-returns-in-Failed : goal.product-returns-in-Failed
-product-returns-in-Failed t c = product_wrong c.args.text.now c.args.at c.loop-x.i c.loop-x.l _ c.loop-x.invariant c.primary-p.ensures c.in-Failed.is
+pub product-returns-in_err-right : goal.product-returns-in_err-right
+product-returns-in_err-right t c =
+    let g = product_times c.loop-rest.value c.loop-rest.rest.now _ (cut c.loop-rest.rest.now 42 (omega arith) (omega arith)) in
+    rw c.from_residual-in_err-right.ensures (sym (c.loop-rest.invariant.same ∙ g ∙ product_none _ (Times c.loop-rest.value) c.in_err-right.ensures))
 
-pub sum-returns-else-b-eq45 : goal.sum-returns-else-b-eq45
-sum-returns-else-b-eq45 t c =
-    sum_ends c.args.text.now c.args.at c.loop-x.i _ _ c.loop-x.l _ _ _ c.loop-x.invariant c.product-p.ensures c.in-Read.is c.combine-s.ensures c.byte_at-b.ensures c.if-b-eq43.false c.if-b-eq45.false
+pub product-loop-rest-preserved : goal.product-loop-rest-preserved
+product-loop-rest-preserved t c =
+    let g = product_times c.loop-rest.value c.loop-rest.rest.now _ (cut c.loop-rest.rest.now 42 (omega arith) (omega arith)) in
+    let h = shorter _ (primary_at 0) _ _ c.in_ok-right.ensures in
+    record {
+      shorter = omega (arith, tail_shorter c.loop-rest.rest.now, c.loop-rest.invariant.shorter);
+      same = product_turn c.args.text.now c.loop-rest.rest.now _ _ c.loop-rest.value _ _ (Times c.loop-rest.value) c.combine-value.ensures c.loop-rest.invariant.same g c.in_ok-right.ensures;
+    }
 
-pub sum-loop-x-smaller : goal.sum-loop-x-smaller
-sum-loop-x-smaller t c = let m = moved_to c.args.text.now (product_at c.loop-x.i Nothing) _ _ _ c.product-p.ensures c.in-Read.is in omega arith
+pub sum-returns-in_err-value : goal.sum-returns-in_err-value
+sum-returns-in_err-value t c = rw c.from_residual.ensures (sym (sum_none c.args.text.now Nothing c.in_err-value.ensures))
 
-pub sum-loop-x-preserved : goal.sum-loop-x-preserved
-sum-loop-x-preserved t c =
-    sum_goes c.args.text.now c.args.at c.loop-x.i _ _ c.loop-x.l _ _ _ _ c.loop-x.invariant c.product-p.ensures c.in-Read.is c.combine-s.ensures c.byte_at-b.ensures (grind arith)
+pub sum-loop-operator-init : goal.sum-loop-operator-init
+sum-loop-operator-init t c = record {
+  shorter = shorter c.args.text.now (product_at 0 Nothing) _ _ c.in_ok-value.ensures;
+  same = sum_some c.args.text.now Nothing _ _ c.in_ok-value.ensures;
+}
 
-pub sum-returns-in-Failed : goal.sum-returns-in-Failed
-sum-returns-in-Failed t c = sum_wrong c.args.text.now c.args.at c.loop-x.i c.loop-x.l _ c.loop-x.invariant c.product-p.ensures c.in-Failed.is
+pub sum-returns-in_err-right : goal.sum-returns-in_err-right
+sum-returns-in_err-right t c =
+    let g = sum_goes c.loop-operator.value c.loop-operator.rest.now _ _ c.in-Some.ensures in
+    rw c.from_residual-in_err-right.ensures (sym (c.loop-operator.invariant.same ∙ g ∙ sum_none _ _ c.in_err-right.ensures))
+
+pub sum-loop-operator-preserved : goal.sum-loop-operator-preserved
+sum-loop-operator-preserved t c =
+    let g = sum_goes c.loop-operator.value c.loop-operator.rest.now _ _ c.in-Some.ensures in
+    let h = shorter _ (product_at 0 Nothing) _ _ c.in_ok-right.ensures in
+    record {
+      shorter = omega (arith, operator_shorter c.loop-operator.rest.now c.in-Some.after.now c.in-Some.operator c.in-Some.ensures, c.loop-operator.invariant.shorter);
+      same = sum_turn c.args.text.now c.loop-operator.rest.now _ _ c.loop-operator.value _ _ _ c.combine-value.ensures c.loop-operator.invariant.same g c.in_ok-right.ensures;
+    }

@@ -1,32 +1,46 @@
-use Rattle.assembler.proofs.Ways.{line_long, line_no_head, line_tested, line_read, line_rest, line_wrong}
-use Rattle.std.proofs.Common.{rules}
+use Rattle.std.proofs.Common.{sym, ap, ◌∙◌, arith}
+use Rattle.std.proofs.lemmas.Result.{err_from_is_err_and}
+use Rattle.address_expression.specs.Values.{reading}
+use Rattle.assembler.proofs.Lines.{refusal_is, line_long, line_no_head, line_no_address, line_rest, line_refused, line_word, line_small}
 use Rattle.assembler.proofs.assemble.Goals as goal
 
-pub returns-then-text-gt255 : goal.returns-then-text-gt255
-returns-then-text-gt255 c = line_long c.args.text.now c.if-text-gt255.true
+pub returns-then-text-gt-LONGEST : goal.returns-then-text-gt-LONGEST
+returns-then-text-gt-LONGEST c = line_long c.args.text.now c.if-text-gt-LONGEST.true
 
-pub returns-then-not-head_good : goal.returns-then-not-head_good
-returns-then-not-head_good c = line_no_head c.args.text.now c.if-text-gt255.false _ c.code_at_start-code.ensures _ c.head_good.ensures c.if-not-head_good.true
+pub returns-in_err-head : goal.returns-in_err-head
+returns-in_err-head c =
+    let p = err_from_is_err_and c.from_residual.result c.from_residual.ensures.1 in
+    let h = ap reading (sym c.in_err-head.ensures.ok_part) ∙ c.read_head.ensures in
+    rw (p.1, p.2) (refusal_is _ _ _ c.in_err-head.ensures.ok_part c.in_err-head.ensures.value ∙ line_no_head c.args.text.now c.if-text-gt-LONGEST.false h)
 
-pub head_good-requires : goal.head_good-requires
-head_good-requires c = c.code_at_start-code.ensures
+pub returns-in_err-address : goal.returns-in_err-address
+returns-in_err-address c =
+    let p = err_from_is_err_and c.from_residual-in_err-address.result c.from_residual-in_err-address.ensures.1 in
+    let h = ap reading (sym c.in_ok-head.ensures.ok_part) ∙ c.read_head.ensures in
+    let a = ap reading (sym c.in_err-address.ensures.ok_part) ∙ c.address.ensures in
+    rw (p.1, p.2) (refusal_is _ _ _ c.in_err-address.ensures.ok_part c.in_err-address.ensures.value ∙ line_no_address c.args.text.now c.if-text-gt-LONGEST.false _ _ h a)
 
-pub complete-requires : goal.complete-requires
-complete-requires c = line_tested c.args.text.now c.if-text-gt255.false _ c.code_at_start-code.ensures _ c.head_good.ensures c.if-not-head_good.false _ _ _
-    c.past_byte-p.ensures.place c.past_byte-q.ensures.place c.past_index.ensures _ c.address_at-f.ensures
-    _ _ c.in-AddressTo.is
+pub returns-then-not-ends : goal.returns-then-not-ends
+returns-then-not-ends c =
+    let h = ap reading (sym c.in_ok-head.ensures.ok_part) ∙ c.read_head.ensures in
+    let a = ap reading (sym c.in_ok-address.ensures.ok_part) ∙ c.address.ensures in
+    line_rest c.args.text.now c.if-text-gt-LONGEST.false _ _ h _ _ a _ c.ends.ensures (grind arith)
 
-pub returns-then-ends : goal.returns-then-ends
-returns-then-ends c = line_read c.args.text.now c.if-text-gt255.false _ c.code_at_start-code.ensures _ c.head_good.ensures c.if-not-head_good.false _ _ _
-    c.past_byte-p.ensures.place c.past_byte-q.ensures.place c.past_index.ensures _ c.address_at-f.ensures
-    _ _ c.in-AddressTo.is _ _ c.has.ensures c.ends.ensures c.if-ends.true _ c.complete.ensures
+pub returns-in_err-address-2 : goal.returns-in_err-address-2
+returns-in_err-address-2 c =
+    let p = err_from_is_err_and c.from_residual-in_err-address-2.result c.from_residual-in_err-address-2.ensures.1 in
+    let h = ap reading (sym c.in_ok-head.ensures.ok_part) ∙ c.read_head.ensures in
+    let a = ap reading (sym c.in_ok-address.ensures.ok_part) ∙ c.address.ensures in
+    rw (p.1, p.2) (line_refused c.args.text.now c.if-text-gt-LONGEST.false _ _ h _ _ a _ c.ends.ensures (grind arith) _ c.in_err-address-2.was)
 
-pub returns-else-ends : goal.returns-else-ends
-returns-else-ends c = line_rest c.args.text.now c.if-text-gt255.false _ c.code_at_start-code.ensures _ c.head_good.ensures c.if-not-head_good.false _ _ _
-    c.past_byte-p.ensures.place c.past_byte-q.ensures.place c.past_index.ensures _ c.address_at-f.ensures
-    _ _ c.in-AddressTo.is _ _ c.has.ensures c.ends.ensures c.if-ends.false
+pub word_of-requires : goal.word_of-requires
+word_of-requires c =
+    let h = ap reading (sym c.in_ok-head.ensures.ok_part) ∙ c.read_head.ensures in
+    let a = ap reading (sym c.in_ok-address.ensures.ok_part) ∙ c.address.ensures in
+    line_small c.args.text.now c.if-text-gt-LONGEST.false _ _ h _ _ _ c.in_ok-address-2.was a
 
-pub returns-in-NoAddress : goal.returns-in-NoAddress
-returns-in-NoAddress c = line_wrong c.args.text.now c.if-text-gt255.false _ c.code_at_start-code.ensures _ c.head_good.ensures c.if-not-head_good.false _ _ _
-    c.past_byte-p.ensures.place c.past_byte-q.ensures.place c.past_index.ensures _ c.address_at-f.ensures
-    c.in-NoAddress.is
+pub returns : goal.returns
+returns c =
+    let h = ap reading (sym c.in_ok-head.ensures.ok_part) ∙ c.read_head.ensures in
+    let a = ap reading (sym c.in_ok-address.ensures.ok_part) ∙ c.address.ensures in
+    line_word c.args.text.now c.if-text-gt-LONGEST.false _ _ h _ _ a _ c.ends.ensures (grind arith) _ _ c.in_ok-address-2.was c.word_of.ensures

@@ -1,18 +1,15 @@
-use Rattle.assembler.proofs.Ways.{ends_plain, ends_open, ends_closed}
-use Rattle.definition_assembler.proofs.Steps.{inside_eq}
-use mathlib.Core.Path.{sym, ◌∙◌}
-use native.Mathlib.Omega.{arith}
-use Rattle.std.proofs.Common.{rules}
+use Rattle.std.proofs.Common.{arith}
+use Rattle.assembler.proofs.Parts.{ended_plain, ended_closed, ended_not}
 use Rattle.assembler.proofs.ends.Goals as goal
 
-pub returns-then-not-indirect : goal.returns-then-not-indirect
-returns-then-not-indirect c = ends_plain c.args.text.now c.args.indirect c.args.n c.if-not-indirect.true
+pub returns-in-empty : goal.returns-in-empty
+returns-in-empty c = ended_plain _ _ (omega arith)
 
-pub returns-then-not-has : goal.returns-then-not-has
-returns-then-not-has c = ends_open c.args.text.now c.args.indirect _ c.args.n c.if-not-indirect.false c.has.ensures c.if-not-has.true
+pub returns-in-93 : goal.returns-in-93
+returns-in-93 c = ended_closed c.args.text.now c.args.indirect (omega arith) (omega arith) (omega arith)
 
-pub overflow_add-result : goal.overflow_add-result
-overflow_add-result c = let i = inside_eq c.args.text.now c.args.n 93 (omega arith) (sym c.has.ensures ∙ c.if-not-has.false) in omega arith
+pub returns-in_default : goal.returns-in_default
+returns-in_default c = ended_not c.args.text.now c.args.indirect (omega arith) (λ l e. grind arith)
 
-pub returns : goal.returns
-returns c = ends_closed c.args.text.now c.args.indirect _ c.args.n c.if-not-indirect.false c.has.ensures c.if-not-has.false
+pub returns-in_default-2 : goal.returns-in_default-2
+returns-in_default-2 c = ended_not c.args.text.now c.args.indirect (omega arith) (λ l e. grind arith)

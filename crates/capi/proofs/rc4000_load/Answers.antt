@@ -5,7 +5,7 @@ use Rattle.capi.proofs.rc4000_load.Goals as goal
 pub returns : goal.returns
 unfolding load_call
 returns c = let e = c.load-x.ensures in rw (
-  ← c.record-c.ensures,
+  ← c.from-c.ensures,
   ← e.state,
   ← e.cells,
   ← c.state_result.ensures,

@@ -5,7 +5,7 @@ use Rattle.capi.proofs.rc4000_overlay.Goals as goal
 pub returns : goal.returns
 unfolding overlay_call
 returns c = let e = c.overlay-x.ensures in rw (
-  ← c.record-c.ensures,
+  ← c.from-c.ensures,
   ← e.state,
   ← e.cells,
   ← c.state_result.ensures,

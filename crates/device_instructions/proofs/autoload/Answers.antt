@@ -15,5 +15,5 @@ returns-clause-value c = let i1 = c.input-a.ensures in
     let i2 = c.input-b.ensures in
     let i3 = c.input-c.ensures in
     let i4 = c.input-v.ensures in
-    let h = channel_at c.args.h.now c.args.characters.now c.args.typing.now in
-    rw (loaded _ _ _ h c.requires.0 (sym c.is_absent.ensures ∙ c.if-is_absent.false), ← i1.channel, ← i1.control, ← i1.register, ← i2.channel, ← i2.control, ← i2.register, ← i3.channel, ← i3.control, ← i3.register, ← i4.channel, ← i4.control, ← i4.register, ← c.load.ensures)
+    let h = channel_at c.args.h.now in
+    rw (loaded _ _ _ h c.requires (sym c.is_absent.ensures ∙ c.if-is_absent.false), ← i1.channel, ← i1.control, ← i1.register, ← i2.channel, ← i2.control, ← i2.register, ← i3.channel, ← i3.control, ← i3.register, ← i4.channel, ← i4.control, ← i4.register, ← c.load.ensures)

@@ -4,14 +4,13 @@ use Rattle.definition_instructions.specs.Meaning.{device_meaning}
 use Rattle.definition_instructions.specs.Codes.{execute_device}
 use Rattle.definition_instructions.specs.Machine.{reset_system}
 use mathlib.Core.Path.{sym, ◌∙◌}
-use Rattle.std.proofs.Common.{rules}
 use Rattle.device_instructions.proofs.aw.Goals as goal
 
 pub returns-then-is_task-clause-value : goal.returns-then-is_task-clause-value
 returns-then-is_task-clause-value c = rw (autoload_in_task _ _ _ _ _ (sym c.is_task.ensures ∙ c.if-is_task.true))
 
 pub autoload-requires : goal.autoload-requires
-autoload-requires c = (sym c.has_four.ensures ∙ c.if-has_four.true, search rules, search rules)
+autoload-requires c = sym c.has_four.ensures ∙ c.if-has_four.true
 
 pub returns-then-has_four-clause-value : goal.returns-then-has_four-clause-value
 unfolding execute_device execute_device_operation device_meaning

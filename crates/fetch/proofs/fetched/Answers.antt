@@ -1,6 +1,5 @@
 use native.Mathlib.Omega.{arith}
 use Rattle.fetch.proofs.Fetch.{cell_fetched, bytes_fetched, key_bound}
-use Rattle.std.proofs.Common.{rules}
 use Rattle.fetch.proofs.fetched.Goals as goal
 
 pub returns-then-h-s : goal.returns-then-h-s

@@ -1,24 +1,12 @@
-use Prim.Native.Nat.{◌≤◌, ◌-◌}
-use mathlib.Core.Path.{◌≡◌, refl}
-use native.Mathlib.Omega.{arith}
-use Rattle.definition_runs.specs.Cycle.{first_request}
-use Rattle.interruption.proofs.Lines.{request_step}
-use Rattle.std.proofs.Common.{rules}
+use Rattle.std.proofs.Common.{◌≡◌, arith, sym, ◌∙◌}
+use Rattle.interruption.proofs.Lines.{request_step, no_step}
 use Rattle.interruption.proofs.first_request.Goals as goal
 
-pub loop-p-init : goal.loop-p-init
-loop-p-init c = (search rules, refl)
-
-pub returns-then-is_requested-clause-value : goal.returns-then-is_requested-clause-value
-returns-then-is_requested-clause-value c = rw (← c.loop-p.invariant.1, request_step _ _ _ c.loop-p-test.true, ← c.is_requested.ensures, c.if-is_requested.true)
-
-pub loop-p-smaller : goal.loop-p-smaller
-loop-p-smaller c = omega arith
+pub returns-then-is_requested : goal.returns-then-is_requested
+returns-then-is_requested c = (omega arith, rw (← c.loop-p.invariant, request_step _ _ _ c.loop-p-test.true, ← c.is_requested.ensures, c.if-is_requested.true))
 
 pub loop-p-preserved : goal.loop-p-preserved
-loop-p-preserved c = (omega arith, rw (← c.loop-p.invariant.1, request_step _ _ _ c.loop-p-test.true, ← c.is_requested.ensures, c.if-is_requested.false))
+loop-p-preserved c = rw (← c.loop-p.invariant, request_step _ _ _ c.loop-p-test.true, ← c.is_requested.ensures, c.if-is_requested.false)
 
-pub returns-clause-value : goal.returns-clause-value
-unfolding first_request
-returns-clause-value c = let z : 24 - c.loop-p.p ≡ 0 = omega arith in
-    rw (← c.loop-p.invariant.1, z)
+pub returns : goal.returns
+returns c = let z : c.loop-p.p ≡ 24 = omega arith in sym c.loop-p.invariant ∙ no_step _ _ _ _ (omega arith) ∙ z

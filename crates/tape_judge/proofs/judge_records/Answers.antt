@@ -1,30 +1,64 @@
-use Prim.Native.Nat.{◌+◌, ◌-◌, ◌≤◌, ◌<◌}
-use mathlib.Core.Path.{refl}
-use native.Mathlib.Omega.{arith}
-use lib.ListN.{length}
-use Rattle.tape_judge.proofs.Steps.{Judging, judging_start, judge_done, judge_on}
-use Rattle.std.proofs.Common.{rules}
+use Rattle.std.proofs.Common.{arith, sym, inl, ◌∙◌}
+use Rattle.std.proofs.lemmas.Result.{err_from_is_err_and}
+use Rattle.tape_records.proofs.Rows.{header}
+use Rattle.tape_overlap.proofs.Names.{records_count}
+use Rattle.tape_judge.proofs.Steps.{judging_start, judging_end, judged_refused, judged_end, judged_on, told, records_left, neither}
 use Rattle.tape_judge.proofs.judge_records.Goals as goal
 
-pub loop-v-init : goal.loop-v-init
-loop-v-init c = judging_start _ _ _
+pub loop-n-init : goal.loop-n-init
+loop-n-init c = rw c.into_iter-n-iterator.ensures.into_iter_gives (rw (c.enumerate-n-items.ensures.source, c.enumerate-n-items.ensures.count, c.of.ensures) record {
+  can_next = (tt, tt, inl (omega (arith, records_count c.args.tape.now)));
+  is_finite = tt;
+  judging = judging_start _ _ _;
+})
 
-pub returns-in-Done : goal.returns-in-Done
-returns-in-Done c = judge_done _ c.args.tape.now _ c.loop-v.at c.loop-v.n _ c.first_again-first.ensures.first c.loop-v.invariant _ _ refl
-    c.judge_step-s.ensures _ c.in-Done.is
+pub judge_record-requires : goal.judge_record-requires
+judge_record-requires c = header _ _ _ c.in-Some.ensures.steps.0
 
-pub overflow_add-at : goal.overflow_add-at
-overflow_add-at c =
-    omega (arith, judge_on _ c.args.tape.now _ c.loop-v.at c.loop-v.n _ c.first_again-first.ensures.first c.loop-v.invariant _ _ refl c.judge_step-s.ensures _ _ c.in-Advance.is)
+pub returns-in_err-judge_record : goal.returns-in_err-judge_record
+returns-in_err-judge_record c =
+    let p = err_from_is_err_and c.from_residual.result c.from_residual.ensures.1 in
+    let j = c.loop-n.invariant.judging in
+    let s = c.in-Some.ensures.steps in
+    let q = told _ _ _ _ _ _ _ _ j.passed s.0 s.1 c.ne.ensures in
+    rw (p.1, p.2) (judged_refused _ _ _ _ _ _ _ _ _ c.first_again-first.ensures.first j s.0 q _ c.in_err-judge_record.ensures)
 
-pub overflow_add-n : goal.overflow_add-n
-overflow_add-n c =
-    omega (arith, c.first_again-first.ensures.bound, judge_on _ c.args.tape.now _ c.loop-v.at c.loop-v.n _ c.first_again-first.ensures.first c.loop-v.invariant _ _ refl c.judge_step-s.ensures _ _ c.in-Advance.is)
+pub judge_end-requires : goal.judge_end-requires
+judge_end-requires c = header _ _ _ c.in-Some.ensures.steps.0
 
-pub loop-v-smaller : goal.loop-v-smaller
-loop-v-smaller c =
-    omega (arith, judge_on _ c.args.tape.now _ c.loop-v.at c.loop-v.n _ c.first_again-first.ensures.first c.loop-v.invariant _ _ refl c.judge_step-s.ensures _ _ c.in-Advance.is)
+pub returns-in-End : goal.returns-in-End
+returns-in-End c =
+    let j = c.loop-n.invariant.judging in
+    let s = c.in-Some.ensures.steps in
+    let q = told _ _ _ _ _ _ _ _ j.passed s.0 s.1 c.ne.ensures in
+    let k = rw c.in-End.is at c.in_ok-judge_record.ensures.0 in
+    c.judge_end.ensures ∙ judged_end _ _ _ _ _ _ _ _ _ c.first_again-first.ensures.first j s.0 q c.in_ok-judge_record.ensures.1 (sym k)
 
-pub loop-v-preserved : goal.loop-v-preserved
-loop-v-preserved c =
-    (judge_on _ c.args.tape.now _ c.loop-v.at c.loop-v.n _ c.first_again-first.ensures.first c.loop-v.invariant _ _ refl c.judge_step-s.ensures _ _ c.in-Advance.is).3
+pub loop-n-preserved-in-Control : goal.loop-n-preserved-in-Control
+loop-n-preserved-in-Control c =
+    let j = c.loop-n.invariant.judging in
+    let s = c.in-Some.ensures.steps in
+    let q = told _ _ _ _ _ _ _ _ j.passed s.0 s.1 c.ne.ensures in
+    let k = rw c.in-Control.is at c.in_ok-judge_record.ensures.0 in
+    let m = judged_on _ _ _ _ _ _ _ _ _ c.first_again-first.ensures.first j s.0 q _ c.in_ok-judge_record.ensures.1 (λ e. omega arith) (rw (← k)) in
+    rw s.2 record {
+      can_next = (tt, tt, inl (omega (arith, records_left _ _ _ _ _ j.passed s.0, records_count c.args.tape.now)));
+      is_finite = tt;
+      judging = m;
+    }
+
+pub loop-n-preserved : goal.loop-n-preserved
+loop-n-preserved c =
+    let j = c.loop-n.invariant.judging in
+    let s = c.in-Some.ensures.steps in
+    let q = told _ _ _ _ _ _ _ _ j.passed s.0 s.1 c.ne.ensures in
+    let k = neither _ _ c.in_ok-judge_record.ensures.0 c.in-Block.is in
+    let m = judged_on _ _ _ _ _ _ _ _ _ c.first_again-first.ensures.first j s.0 q _ c.in_ok-judge_record.ensures.1 k.0 k.1 in
+    rw s.2 record {
+      can_next = (tt, tt, inl (omega (arith, records_left _ _ _ _ _ j.passed s.0, records_count c.args.tape.now)));
+      is_finite = tt;
+      judging = m;
+    }
+
+pub returns : goal.returns
+returns c = judging_end _ _ _ _ _ _ c.loop-n.invariant.judging c.in-None.ensures.steps.0.0

@@ -1,10 +1,5 @@
-use native.Mathlib.Omega.{arith}
 use Rattle.tape_overlap.proofs.Passes.{first_none}
-use Rattle.std.proofs.Common.{rules}
 use Rattle.tape_overlap.proofs.first_again.Goals as goal
-
-pub returns-then-rising-clause-bound : goal.returns-then-rising-clause-bound
-returns-then-rising-clause-bound c = omega arith
 
 pub returns-then-rising-clause-first : goal.returns-then-rising-clause-first
 returns-then-rising-clause-first c = first_none _ _ (c.rising.ensures c.if-rising.true)

@@ -1,12 +1,7 @@
-use Prim.Native.Nat.{◌-◌, ◌≤◌, max}
-use mathlib.Core.Path.{◌≡◌, refl, sym, ap, ◌∙◌}
-use mathlib.Core.Bool.{true≢false, false≢true}
-use native.Mathlib.Omega.{arith}
-use lib.ListN.{length}
-use Rattle.tape_overlap.specs.Again.{MarkedFrom}
+use Rattle.std.proofs.Common.{rules, arith, length, refl, sym, ap, ◌∙◌}
+use Rattle.std.proofs.lemmas.Bool.{true≢false, false≢true}
 use Rattle.tape_overlap.proofs.Bits.{length_with_mark}
 use Rattle.tape_overlap.proofs.Marked.{marked_none, marked_more, marked_all, met_at}
-use Rattle.std.proofs.Common.{rules}
 use Rattle.tape_overlap.proofs.mark.Goals as goal
 
 pub loop-i-init : goal.loop-i-init

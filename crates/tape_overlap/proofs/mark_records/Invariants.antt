@@ -1,20 +1,21 @@
-use Prim.Native.Nat.{◌-◌, ◌≤◌}
-use mathlib.Core.Path.{◌≡◌, refl, sym, ◌∙◌}
-use mathlib.Core.Logic.{inr}
-use native.Mathlib.Omega.{arith}
-use borrow.Author.Tests.{not-false, not-true}
-use lib.ListN.{length, take}
+use Rattle.std.proofs.Common.{◌≡◌, ◌+◌, length, take}
+use Rattle.std.specs.Iterator.Adapters.{enumerate_source, enumerate_count, take_source, take_count}
 use Rattle.definition_tape.specs.Layout.{records_of}
 use Rattle.tape_overlap.specs.Again.{Marks}
-use Rattle.tape_overlap.proofs.Names.{whole_fits}
-use Rattle.tape_overlap.proofs.Passes.{Passed, passed_within, passed_next, stop_at}
-use Rattle.tape_overlap.proofs.Marked.{Unnamed, unnamed_none, unnamed_next, marks_next, stop_again, searched, searched_all}
-use Rattle.std.proofs.Common.{rules}
+use Rattle.tape_overlap.proofs.Passes.{Passed}
+use Rattle.tape_overlap.proofs.Marked.{Unnamed}
 use Rattle.tape_overlap.proofs.mark_records.Given as goal
 
 abbrev pub invariant-loop-n : goal.invariant-loop-n
 invariant-loop-n l =
-    (l.at ≤ length l.tape) × (l.n ≤ l.most) × (length l.marks ≡ 8192) × Passed l.tape l.at l.n × Marks l.low (take l.n (records_of l.tape)) l.marks × Unnamed (records_of l.tape) l.n l.high
-
-abbrev pub decreases-loop-n : goal.decreases-loop-n
-decreases-loop-n l = l.most - l.n
+    let n = enumerate_count l.n-iterator in
+    let left = enumerate_source l.n-iterator in
+    record {
+      can_next : (goal.iterator-loop-n).can_next l.n-iterator;
+      is_finite : (goal.iterator-loop-n).is_finite l.n-iterator;
+      words : length l.marks ≡ 8192;
+      most : n + take_count left ≡ l.most;
+      passed : Passed (records_of l.tape) (records_of (take_source left).rest.now) n;
+      marks : Marks l.low (take n (records_of l.tape)) l.marks;
+      beyond : Unnamed (records_of l.tape) n l.high;
+    }

@@ -9,7 +9,7 @@ use Rattle.tape_overlap.proofs.search.Goals as goal
 
 pub loop-left-init : goal.loop-left-init
 loop-left-init c = let s = c.search_part-front.ensures in
-    (s.bound, found_front _ _ _ _ _ (records_count _) c.smaller-left.ensures s)
+    (s.bound, found_front _ _ _ _ _ (records_count _) c.min-left.ensures s)
 
 pub loop-left-preserved : goal.loop-left-preserved
 loop-left-preserved c = let l = c.loop-left in

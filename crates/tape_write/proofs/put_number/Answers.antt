@@ -1,7 +1,6 @@
-use native.Mathlib.Omega.{arith}
-use Rattle.tape_write.proofs.Puts.{four_stores}
+use Rattle.std.proofs.Common.{arith, ◌∙◌}
+use Rattle.tape_write.proofs.Puts.{part_put}
 use Rattle.tape_write.proofs.put_number.Goals as goal
 
 pub returns : goal.returns
-returns c = rw (c.low.ensures, c.low-2.ensures, c.low-3.ensures, c.low-4.ensures)
-    (four_stores _ _ _ _ _ _ (omega arith))
+returns c = part_put _ _ _ _ _ (c.copy_from_slice.ensures.after ∙ c.to_le_bytes.ensures) (omega arith)

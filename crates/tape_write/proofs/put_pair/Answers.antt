@@ -1,6 +1,6 @@
-use native.Mathlib.Omega.{arith}
-use Rattle.tape_write.proofs.Puts.{two_stores}
+use Rattle.std.proofs.Common.{arith, ◌∙◌}
+use Rattle.tape_write.proofs.Puts.{part_put}
 use Rattle.tape_write.proofs.put_pair.Goals as goal
 
 pub returns : goal.returns
-returns c = rw (c.low.ensures, c.low-2.ensures) (two_stores _ _ _ _ (omega arith))
+returns c = part_put _ _ _ _ _ (c.copy_from_slice.ensures.after ∙ c.to_le_bytes.ensures) (omega arith)

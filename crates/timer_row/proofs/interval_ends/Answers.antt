@@ -1,7 +1,6 @@
 use Rattle.acceptance.proofs.Tests.{running}
 use Rattle.std.proofs.Common.{arith}
 use Rattle.timer_row.proofs.Laws.{never_ends, ends}
-use Rattle.std.proofs.Common.{rules}
 use Rattle.timer_row.proofs.interval_ends.Goals as goal
 
 pub returns-then-r-eq0 : goal.returns-then-r-eq0

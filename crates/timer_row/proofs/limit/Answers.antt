@@ -1,7 +1,6 @@
 use Rattle.acceptance.proofs.Tests.{running}
 use Rattle.std.proofs.Common.{arith}
 use Rattle.timer_row.proofs.Laws.{limit_off, limit_near, limit_far}
-use Rattle.std.proofs.Common.{rules}
 use Rattle.timer_row.proofs.limit.Goals as goal
 
 pub returns-then-r-eq0-clause-value : goal.returns-then-r-eq0-clause-value

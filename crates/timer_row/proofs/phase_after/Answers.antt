@@ -1,7 +1,6 @@
 use Rattle.acceptance.proofs.Tests.{running}
-use Rattle.std.proofs.Common.{arith, rules}
+use Rattle.std.proofs.Common.{arith}
 use Rattle.timer_row.proofs.Laws.{phase_stays, phase_grows, phase_remains}
-use Rattle.std.proofs.Common.{rules}
 use Rattle.timer_row.proofs.phase_after.Goals as goal
 
 pub returns-then-r-eq0 : goal.returns-then-r-eq0

@@ -1,0 +1,2 @@
+-- The numbers that are drawn, and the checksum.
+pub mod Drawn

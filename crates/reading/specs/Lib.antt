@@ -1,0 +1,2 @@
+-- Numbers in an input.
+pub mod Number
