@@ -12,7 +12,7 @@ use registers::WORD_RANGE;
 use std::marker::Model;
 
 // The mask answers the protection test of a fetch and the mode together.
-#[derive(Drop)]
+#[derive(Clone, Copy)]
 pub struct Row {
     ic: u32,
     ir: u32,
@@ -26,7 +26,7 @@ pub struct Row {
 }
 
 impl Model for Row {
-    ghost use Rattle.std.specs.Prelude.{◌≡◌, ◌<◌, false};
+    ghost use Rattle.std.specs.Prelude.{◌≡◌, ◌<◌, false, refl};
     ghost use Rattle.machine.specs.declared.Control.{Control};
     ghost use Rattle.control_row.specs.Row.{mode_mask};
 
@@ -35,6 +35,10 @@ impl Model for Row {
     ghost view = { λ k. record { ic = k.ic; ir = k.ir; im = k.im; pending = k.pending; pr = k.pr; ex = k.ex; monitor = k.monitor; enabled = k.enabled; reset = false } };
 
     ghost invariant = { λ k. (k.pr < 256) × (k.mask ≡ mode_mask k.pr k.monitor) };
+
+    ghost inverse = { λ c. record { ic = c.ic; ir = c.ir; im = c.im; pending = c.pending; pr = c.pr; ex = c.ex; monitor = c.monitor; enabled = c.enabled; mask = mode_mask c.pr c.monitor } };
+
+    ghost inverse_ok = { λ a h. rw (h.1) refl };
 }
 
 // How an instruction ended.
@@ -44,6 +48,34 @@ pub enum End {
     Reset,
     Faulted,
 }
+
+// ---- the tests of a control record, whatever its fields; those of a row are its methods
+
+// Test Mode.
+#[tactic(auto, unfolding(machine::specs::Fields::in_task))]
+pub fn is_task(c: Control) -> bool
+    ensures { result ≡ in_task c }
+{
+    !c.monitor
+}
+
+// The cell is forbidden, whatever the mode.
+#[tactic(auto, unfolding(machine::specs::Store::forbidden))]
+pub fn is_forbidden(s: &[u32], c: Control, i: u32) -> bool
+    ensures { result ≡ forbidden s.now c i }
+{
+    machine::is_key_forbidden(c.pr, machine::key_at(s, i))
+}
+
+// Test Protection: task mode, and the cell is forbidden.
+#[tactic(auto, unfolding(machine::specs::Fields::in_task, machine::specs::Store::forbidden, machine::specs::Store::violation))]
+pub fn is_violation(s: &[u32], c: Control, i: u32) -> bool
+    ensures { result ≡ violation s.now c i }
+{
+    is_task(c) && is_forbidden(s, c, i)
+}
+
+// ---- the row
 
 #[tactic(auto, unfolding(crate::specs::Row::mode_mask))]
 fn mode_mask(pr: u32, monitor: bool) -> u32

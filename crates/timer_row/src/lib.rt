@@ -12,7 +12,7 @@ use machine::Timer;
 use std::marker::Model;
 
 // The time that passed since the timer was last worked out, and how much may pass before it is worked out again.
-#[derive(Drop)]
+#[derive(Clone, Copy)]
 pub struct Clock {
     passed: u32,
     limit: u32,
@@ -20,7 +20,7 @@ pub struct Clock {
 }
 
 impl Model for Clock {
-    ghost use Rattle.std.specs.Prelude.{◌≡◌, true};
+    ghost use Rattle.std.specs.Prelude.{◌≡◌, true, refl};
     ghost use Rattle.acceptance.specs.Accept.{timer_fits};
     ghost use Rattle.timer_row.specs.Row.{Clock, limit_of};
 
@@ -29,6 +29,10 @@ impl Model for Clock {
     ghost view = { λ t. record { passed = t.passed; timer = t.timer } };
 
     ghost invariant = { λ t. (t.limit ≡ limit_of t.timer) × (timer_fits t.timer ≡ true) };
+
+    ghost inverse = { λ c. record { passed = c.passed; limit = limit_of c.timer; timer = c.timer } };
+
+    ghost inverse_ok = { λ a h. rw (h.0) refl };
 }
 
 // The time of an entry.
