@@ -4,7 +4,7 @@
 ghost use Rattle.std.specs.Prelude.{◌≡◌, ◌≤◌, ◌==◌, length};
 ghost use Rattle.std.specs.List.{position};
 ghost use Rattle.std.specs.Iterator.{YieldsFirstBy, item_count};
-ghost use Rattle.listing.specs.Lines.{to_newline, lines, bytes};
+ghost use Rattle.listing.specs.Lines.{to_newline, line_end, lines, bytes};
 
 // The bytes of the longest listing.
 pub const MOST_BYTES: usize = 65536;
@@ -21,6 +21,17 @@ fn to_newline(text: &[u8]) -> usize
     ensures inside { result ≤ length text.now }
 {
     newline(text).unwrap_or(text.len())
+}
+
+// Where the line from `start` on ends: at its newline, or at the end of the listing.
+#[tactic(auto, using(crate::proofs::Cut::to_newline_from), unfolding(crate::specs::Lines::line_end))]
+pub fn line_end(listing: &[u8], start: usize) -> usize
+    requires { start ≤ length listing.now }
+    ensures place { result ≡ line_end listing.now start }
+    ensures after { start ≤ result }
+    ensures inside { result ≤ length listing.now }
+{
+    start + to_newline(&listing[start..])
 }
 
 // The lines of a listing that are still to come, one after the other.
