@@ -169,18 +169,28 @@ impl<'a> Iterator for Records<'a> {
     }
 }
 
-// The tape from its first record of that kind on. It calls itself on what is left: the form that document 01 names (docs/DECISIONS.md, F8).
+// The tape from its first record of that kind on, empty where there is none. It calls itself on what is left: the form that document 01 names
+// (docs/DECISIONS.md, F8). A slice goes back in registers, so the call is a jump and takes no stack.
 #[tactic(auto, using(definition_tape::proofs::Records::length_rest, definition_tape::proofs::Firsts::first_none, definition_tape::proofs::Firsts::first_here, definition_tape::proofs::Firsts::first_next))]
+fn first<'a>(tape: &'a [u8], kind: u32) -> &'a [u8]
+    ensures text { result.now ≡ first_of kind (records_of tape.now) }
+    ensures header { 0 < length result.now → 6 ≤ length result.now }
+{
+    if tape.len() < 6 {
+        return &tape[..0];
+    }
+    if record_kind(tape) == kind {
+        return tape;
+    }
+    first(rest_of(tape), kind)
+}
+
+// The tape from its first record of that kind on, none where there is none.
 pub fn hunt<'a>(tape: &'a [u8], kind: u32) -> Option<&'a [u8]>
     ensures { MatchOption result (first_of kind (records_of tape.now) ≡ []) (λ m. (6 ≤ length m.now) × (m.now ≡ first_of kind (records_of tape.now))) }
 {
-    if tape.len() < 6 {
-        return None;
-    }
-    if record_kind(tape) == kind {
-        return Some(tape);
-    }
-    hunt(rest_of(tape), kind)
+    let m = first(tape, kind);
+    if m.is_empty() { None } else { Some(m) }
 }
 
 // The bytes of a block's cells.
