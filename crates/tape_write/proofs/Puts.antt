@@ -102,6 +102,21 @@ control_put o₀ o₁ o₂ o₃ o₄ o₅ o₆ o₇ at r h e₁ e₂ e₃ e₄ e
     let f₆ = put_then o₀ o₅ o₆ at (at + 22) _ _ f₅ e₆ refl h in
     put_then o₀ o₆ o₇ at (at + 26) _ _ f₆ e₇ refl h
 
+-- ---- a text
+
+pub text_none : (o : List ℕ) (at : ℕ) → o ≡ put o at []
+text_none o at = sym (put_none o at)
+
+pub text_more : (o₀ o₁ : List ℕ) (at i : ℕ) (t : List ℕ) → at + length t ≤ length o₀ → length o₁ ≡ length o₀ → i < length t → o₁ ≡ put o₀ at (take i t)
+    → set o₁ (at + i) (get_or t i 0) ≡ put o₀ at (take (i + 1) t)
+text_more o₀ o₁ at i t h k l e =
+    let n : length (take i t) ≡ i = length-take-le i t (omega arith) in
+    rw (add-one i, take-suc t i 0 l)
+    (put_then o₀ o₁ _ at (at + i) (take i t) (get_or t i 0 ∷ []) e (one_store o₁ (at + i) (get_or t i 0) (omega arith)) (rw n) (omega arith))
+
+pub text_all : (o₀ o₁ : List ℕ) (at i : ℕ) (t : List ℕ) → i ≡ length t → o₁ ≡ put o₀ at (take i t) → o₁ ≡ put o₀ at t
+text_all o₀ o₁ at i t e f = f ∙ rw (e, take-length t)
+
 -- ---- cells
 
 cells_append : (a b : List ℕ) → cells_bytes (a ++ b) ≡ cells_bytes a ++ cells_bytes b

@@ -201,11 +201,14 @@ fn put_control(out: &mut [u8], at: usize, r: Record)
 
 // ---- the remark
 
+// Byte by byte: `copy_from_slice` of a length that is not known would have the C library ask for `memmove`.
 fn put_text(out: &mut [u8], at: usize, text: &[u8])
     requires { at + length text.now ≤ length out.old }
     ensures { out.new ≡ put out.old at text.now }
 {
-    out[at..at + text.len()].copy_from_slice(text);
+    for (i, byte) in text.iter().enumerate() {
+        out[at + i] = *byte;
+    }
 }
 
 #[tactic(auto, unfolding(definition_tape::specs::Writing::remark_fits))]
