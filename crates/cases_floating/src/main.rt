@@ -61,17 +61,26 @@ fn fractions() -> u32 {
     })
 }
 
+// A line is written as soon as it is worked out.
+fn write_line(rt: &impl Print, name: &str, cases: u32, h: u32) -> io::Result<()> {
+    println!(rt; "{name} {cases} {h}")
+}
+
 fn main(rt: HostRuntime) -> io::Result<()> {
     let fa = pairs(1, |c| floating::add(c.ex, c.pre, c.word, c.first, c.second));
+    write_line(&rt, "FA", 40800, fa)?;
     let fs = pairs(2, |c| {
         floating::subtract(c.ex, c.pre, c.word, c.first, c.second)
     });
+    write_line(&rt, "FS", 40800, fs)?;
     let fm = pairs(3, |c| {
         floating::multiply(c.ex, c.pre, c.word, c.first, c.second)
     });
+    write_line(&rt, "FM", 40800, fm)?;
     let fd = pairs(4, |c| {
         floating::divide(c.ex, c.pre, c.word, c.first, c.second)
     });
-    println!(rt; "FA 40800 {fa}\nFS 40800 {fs}\nFM 40800 {fm}\nFD 40800 {fd}")?;
-    println!(rt; "CI 12288 {}\nCF 14880 {}", integers(), fractions())
+    write_line(&rt, "FD", 40800, fd)?;
+    write_line(&rt, "CI", 12288, integers())?;
+    write_line(&rt, "CF", 14880, fractions())
 }
