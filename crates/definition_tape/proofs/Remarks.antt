@@ -10,7 +10,7 @@ use lib.ListN.{length, take, drop}
 use lib.Seq.{take-nil}
 use lib.Dec.{eqb}
 use Rattle.machine.specs.Verdicts.{Verdict, Accepted, Rejected}
-use Rattle.definition_tape.specs.Remark.{Span}
+use Rattle.definition_tape.specs.Remark.{Span, remark_reading}
 use Rattle.definition_tape.specs.Layout.{length_of, kind_of, payload_of, rest_of, records_of, first_of, Whole}
 use Rattle.definition_tape.specs.Remark.{judge_reading, no_span, span_at, span_by, remark_span, text_by, remark_text}
 use Rattle.definition_tape.proofs.Records.{length_rest}
@@ -60,3 +60,11 @@ part_by t m Accepted s w = part_found t m (eqb (length m) 0) refl s (w refl)
 pub remark_part : (t : List ℕ) (n : ℕ) → SpanPart t (remark_text t n) (remark_span t n)
 unfolding remark_text remark_span
 remark_part t n = part_by t (first_of 4 (records_of t)) (judge_reading t n) (suffix 4 t) (λ e. whole_first 4 (reading_judged t n e))
+
+pub reading_none : (t : List ℕ) (n r : ℕ) → remark_span t n ≡ no_span r → remark_reading t n ≡ record { found = false; refusal = r; text = [] }
+reading_none t n r e =
+    let p : SpanPart t (remark_text t n) (no_span r) = rw (sym e) (remark_part t n) in
+    rw (sym p.text, e) refl
+
+pub reading_some : (t : List ℕ) (n a b : ℕ) (x : List ℕ) → remark_span t n ≡ record { start = a; end = b; found = true; refusal = 0 } → x ≡ remark_text t n → remark_reading t n ≡ record { found = true; refusal = 0; text = x }
+reading_some t n a b x e f = rw (f, e) refl

@@ -1,6 +1,7 @@
 -- The first remark of a tape that loads into a store of n cells (document 01, "Load tape").
 -- Assumes nothing.
 use Rattle.std.specs.Prelude.{ℕ, ◌+◌, ◌-◌, Bool, true, false, cond, List, [], length, eqb, Option, Some, None, Result, Ok, Err}
+use denote.Ref.{Bor}
 use Rattle.std.specs.declared.ops.Range.{Range}
 use Rattle.machine.specs.Answers.{refusal_number}
 use Rattle.machine.specs.declared.Refusal.{Refusal}
@@ -49,6 +50,21 @@ text_by Accepted m = payload_of m
 
 unfoldable pub remark_text : List ℕ → ℕ → List ℕ
 remark_text t n = text_by (judge_reading t n) (first_of 4 (records_of t))
+
+-- what the reader says of a tape: whether there is a remark, the refusal's number, 0 for none, and the text
+pub record Reading : Type 0 where
+  pub found : Bool
+  pub refusal : ℕ
+  pub text : List ℕ
+
+abbrev pub remark_reading : List ℕ → ℕ → Reading
+remark_reading t n = record { found = (remark_span t n).found; refusal = (remark_span t n).refusal; text = remark_text t n }
+
+-- what a reader hands back: the text, none, or the refusal
+abbrev pub text_read : Result (Option (Bor (List ℕ))) Refusal → Reading
+text_read (Ok (Some x)) = record { found = true; refusal = 0; text = x.now }
+text_read (Ok None) = record { found = false; refusal = 0; text = [] }
+text_read (Err q) = record { found = false; refusal = refusal_number q; text = [] }
 
 -- the place in memory (block, offset) so many bytes after a place
 abbrev pub place_from : ℕ × ℕ → ℕ → ℕ × ℕ

@@ -8,7 +8,7 @@ ghost use Rattle.definition_runs.specs.Lent.{run_result_of, pressed_of, returned
 ghost use Rattle.definition_runs.specs.Keys.{pressing_reset, pressing_start};
 ghost use Rattle.run_promises.specs.Promises.{KeepsProtected, TouchesNoDevice, Counts};
 ghost use Rattle.definition_tape.specs.Load.{loading, overlaying};
-ghost use Rattle.definition_tape.specs.Remark.{no_span, remark_span, remark_text, place_from};
+ghost use Rattle.definition_tape.specs.Remark.{no_span, remark_span, remark_text, remark_reading, text_read, place_from};
 ghost use Rattle.definition_tape.specs.Writing.{remark_lent, written, writing};
 ghost use Rattle.definition_assembler.specs.Assembling.{assembling};
 
@@ -90,7 +90,8 @@ pub fn overlay(store: &mut [u32], control: Record, tape: &[u8]) -> State
 
 // The first remark's text as a part of the tape, where the tape loads into that many cells.
 pub fn remark<'a>(tape: &'a [u8], cells: usize) -> Result<Option<&'a [u8]>, Refusal>
-    ensures { MatchResult result (λ o. MatchOption o (remark_span tape.now cells ≡ no_span 0) (λ x. (x.now ≡ remark_text tape.now cells) × (x.ref_ptr ≡ place_from tape.entry.ref_ptr (remark_span tape.now cells).start) × ((remark_span tape.now cells).found ≡ true))) (λ q. remark_span tape.now cells ≡ no_span (refusal_number q)) }
+    ensures reading { text_read result ≡ remark_reading tape.now cells }
+    ensures place { MatchResult result (λ o. MatchOption o (remark_span tape.now cells ≡ no_span 0) (λ x. (x.now ≡ remark_text tape.now cells) × (x.ref_ptr ≡ place_from tape.entry.ref_ptr (remark_span tape.now cells).start) × ((remark_span tape.now cells).found ≡ true))) (λ q. remark_span tape.now cells ≡ no_span (refusal_number q)) }
 {
     tape_remark::remark(tape, cells)
 }

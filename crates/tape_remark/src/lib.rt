@@ -5,7 +5,7 @@ ghost use Rattle.std.specs.Prelude.{◌≡◌, true, MatchOption, MatchResult};
 ghost use Rattle.machine.specs.Answers.{refusal_number};
 ghost use Rattle.machine.specs.Verdicts.{Accepted};
 ghost use Rattle.definition_tape.specs.Layout.{records_of, first_of, Whole};
-ghost use Rattle.definition_tape.specs.Remark.{judge_reading, no_span, span_by, span_read, remark_span, remark_text, place_from};
+ghost use Rattle.definition_tape.specs.Remark.{judge_reading, no_span, span_by, span_read, remark_span, remark_text, remark_reading, text_read, place_from};
 
 use machine::Refusal;
 use std::ops::Range;
@@ -41,7 +41,8 @@ pub fn remark_span(tape: &[u8], cells: usize) -> Result<Option<Range<usize>>, Re
 
 // The first remark's text as a part of the tape.
 pub fn remark<'a>(tape: &'a [u8], cells: usize) -> Result<Option<&'a [u8]>, Refusal>
-    ensures { MatchResult result (λ o. MatchOption o (remark_span tape.now cells ≡ no_span 0) (λ x. (x.now ≡ remark_text tape.now cells) × (x.ref_ptr ≡ place_from tape.entry.ref_ptr (remark_span tape.now cells).start) × ((remark_span tape.now cells).found ≡ true))) (λ q. remark_span tape.now cells ≡ no_span (refusal_number q)) }
+    ensures reading { text_read result ≡ remark_reading tape.now cells }
+    ensures place { MatchResult result (λ o. MatchOption o (remark_span tape.now cells ≡ no_span 0) (λ x. (x.now ≡ remark_text tape.now cells) × (x.ref_ptr ≡ place_from tape.entry.ref_ptr (remark_span tape.now cells).start) × ((remark_span tape.now cells).found ≡ true))) (λ q. remark_span tape.now cells ≡ no_span (refusal_number q)) }
 {
     match remark_span(tape, cells)? {
         Some(span) => Ok(Some(&tape[span])),
