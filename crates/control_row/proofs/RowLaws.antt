@@ -1,8 +1,9 @@
--- The mask of a row forbids what PR forbids in monitor mode, and in task mode what it does not.
+-- The mask of a row forbids what PR forbids in monitor mode, and in task mode what it does not; a violation by the mode.
 -- Assumes nothing.
-use Rattle.std.proofs.Common.{◌≡◌, ℕ, zero, suc, ◌-◌, ◌/◌, ◌%◌, ◌^◌, ◌<◌, Bool, true, false, not, cond, eqb, refl, arith}
+use Rattle.std.proofs.Common.{◌≡◌, ℕ, List, zero, suc, ◌-◌, ◌/◌, ◌%◌, ◌^◌, ◌<◌, Bool, true, false, not, cond, eqb, refl, arith}
 use Rattle.machine.specs.declared.Control.{Control}
-use Rattle.machine.specs.Store.{forbids}
+use Rattle.machine.specs.Store.{key, forbids, forbidden, violation}
+use Rattle.machine.specs.Fields.{in_task}
 use Rattle.control_row.specs.Row.{mode_mask, keeps_mode}
 
 -- a bit of the complement
@@ -34,3 +35,12 @@ mask_keeps p q false l = complement_forbids p q l
 pub keeps_mode_mask : (c : Control) (q : ℕ) → c.pr < 256 → forbids (mode_mask c.pr c.monitor) q ≡ keeps_mode c q
 unfolding keeps_mode mode_mask
 keeps_mode_mask c q l = mask_keeps c.pr q c.monitor l
+
+by_mode : (b f : Bool) → cond b false f ≡ cond (not b) f false
+by_mode true f = refl
+by_mode false f = refl
+
+-- a violation is a forbidden cell in task mode, and none in monitor mode
+pub violation_by_mode : (s : List ℕ) (c : Control) (i : ℕ) → violation s c i ≡ cond (in_task c) (forbidden s c i) false
+unfolding violation in_task forbidden
+violation_by_mode s c i = by_mode c.monitor (forbids c.pr (key s i))

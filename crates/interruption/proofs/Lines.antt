@@ -59,3 +59,18 @@ either_way false x y e = refl
 pub line_none : (c : Control) (ir im : ℕ) → ir ≡ c.ir → im ≡ c.im → bit_and ir im ≡ 0 → 24 ≡ line_of c
 unfolding line_of
 line_none c ir im e f z = either_way (looks_at_lines c) 24 _ (no_request c.ir c.im (rw (e, f) at z))
+
+-- interrupts enabled, and no line pending: the first line that is requested
+pub line_first : (c : Control) (ir im r : ℕ) → ir ≡ c.ir → im ≡ c.im → c.enabled ≡ true → c.pending ≡ 0 → r ≡ first_request 24 0 ir im → r ≡ line_of c
+unfolding line_of looks_at_lines
+line_first c ir im r e f a p h = rw (a, eq-eqb c.pending 0 p, ← e, ← f) h
+
+-- a pending interrupt: none
+pub line_pending : (c : Control) → c.enabled ≡ true → (c.pending ≡ 0 → ⊥) → 24 ≡ line_of c
+unfolding line_of looks_at_lines
+line_pending c a p = rw (a, ne_eqb c.pending 0 p)
+
+-- interrupts disabled: none
+pub line_disabled : (c : Control) → c.enabled ≡ false → 24 ≡ line_of c
+unfolding line_of looks_at_lines
+line_disabled c a = rw a

@@ -1,5 +1,5 @@
 -- A block's cells as the code tests them, the judge of a record whose kind is known by name, and the judge's loop. Assumes nothing.
-use Prim.Native.Nat.{ℕ, ◌+◌, ◌≤◌, ◌<◌}
+use Prim.Native.Nat.{ℕ, suc, ◌+◌, ◌*◌, ◌-◌, ◌≤◌, ◌<◌}
 use mathlib.Core.Path.{◌≡◌, refl, sym, ap, ◌∙◌}
 use mathlib.Core.Bool.{Bool, true, false, not, cond, ◌&&◌, true≢false}
 use mathlib.Core.List.{List, [], ◌∷◌, map}
@@ -17,8 +17,9 @@ use Rattle.machine.specs.declared.Refusal.{Refusal}
 use Rattle.machine.specs.declared.Refusal.TheVariants.{TapeEnds, RecordLength, RecordOrder, BlockCell, BlockOverlap}
 use Rattle.machine.specs.Verdicts.{Verdict, Accepted, Rejected}
 use Rattle.acceptance.specs.Accept.{cell_fits, cells_fit}
-use Rattle.definition_tape.specs.Layout.{length_of, kind_of, payload_of, first_cell, cell_count, block_cells}
+use Rattle.definition_tape.specs.Layout.{number_at, length_of, kind_of, payload_of, first_cell, cell_count, cells_from, block_cells}
 use Rattle.definition_tape.specs.Judge.{kind_known, in_order, length_fits, judge_block, judge_payload, judge_record, names, times_named, unnamed_cells, judge_after, judge_records}
+use Rattle.definition_tape.proofs.Records.{length_payload}
 use Rattle.definition_tape.proofs.Named.{names_cell, cell_named, unnamed_true, unnamed_back, FirstNamed}
 use Rattle.definition_tape.proofs.Judged.{Good, good, block_payload}
 use Rattle.tape_records.specs.declared.RecordKind.{RecordKind}
@@ -38,6 +39,26 @@ pub fit_all : (xs : List (List ℕ)) → list_all (λ b. ltb (from_le_bytes w32 
 unfolding cell_fits cells_fit
 fit_all [] = refl
 fit_all (x ∷ xs) = rw (fit_all xs) (both (ltb (from_le_bytes w32 x) 134217728) (cells_fit (map (from_le_bytes w32) xs)))
+
+-- past the last cell nothing is left to fit
+pub fit_none : (p : List ℕ) (at k i : ℕ) → k ≤ i → true ≡ cells_fit (cells_from p at (k - i))
+unfolding cells_fit cells_from
+fit_none p at k i h = let e : k - i ≡ 0 = omega arith in rw e
+
+-- the cells from cell i on: that cell, then those from the next on
+pub fit_step : (p : List ℕ) (k i : ℕ) → i < k
+    → cells_fit (cells_from p (4 + 4 * i) (k - i)) ≡ cond (ltb (number_at p (4 + 4 * i)) 134217728) (cells_fit (cells_from p (4 + 4 * (i + 1)) (k - (i + 1)))) false
+unfolding cells_fit cells_from
+fit_step p k i h =
+    let e : k - i ≡ suc (k - (i + 1)) = omega arith in
+    let a : 4 + 4 * (i + 1) ≡ 4 + 4 * i + 4 = omega arith in
+    rw (e, a)
+
+-- the test of the length that was read, for the payload itself
+pub payload_fits : (t p : List ℕ) (k l : ℕ) (b : Bool) → 6 + l ≤ length t → l ≡ length_of t → p ≡ payload_of t → b ≡ length_fits k l → b ≡ true → length_fits k (length p) ≡ true
+payload_fits t p k l b h e q f o =
+    let w : 6 + length_of t ≤ length t = omega (arith, e) in
+    rw (q, length_payload t w, ← e) (sym f ∙ o)
 
 pub judge_known : (n : ℕ) (after u : Bool) (t : List ℕ) (k : RecordKind) → kind_number k ≡ kind_of t
     → judge_record n after u t
