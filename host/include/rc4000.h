@@ -280,7 +280,7 @@ rc4000_state rc4000_overlay(uint32_t *store, size_t cells, rc4000_control contro
                             const uint8_t *tape, size_t length);
 
 /* The first remark of a tape that loads into a store of this many cells; else the
- * refusal is the load's. Takes up to 260 KB of stack. */
+ * refusal is the load's. Takes up to 48 KB of stack. */
 rc4000_text rc4000_remark(const uint8_t *tape, size_t length, size_t cells);
 
 /* Writes the tape of a machine into a buffer of `space` bytes, whose bytes
