@@ -20,7 +20,7 @@ pub slice_bounds-result-end : goal.slice_bounds-result-end
 slice_bounds-result-end c =
     let p = remark_part c.args.tape.now c.args.cells in
     let s = rw c.in-Some.is at c.in_ok-span.ensures in
-    omega (arith, p.end, ap (λ (x : Span). x.end) s)
+    omega (arith, p.start, p.end, ap (λ (x : Span). x.start) s, ap (λ (x : Span). x.end) s)
 
 pub returns-in-Some-clause-place : goal.returns-in-Some-clause-place
 returns-in-Some-clause-place c =
